@@ -4,7 +4,7 @@ use Rattle.std.specs.Prelude.{◌≡◌, ◌≢◌, ℕ, Bool, true, false, zero
 use Rattle.std.specs.List.{flat_map, slice_get}
 use Rattle.hex.specs.Hex.{encode_lower}
 use Rattle.pgv.specs.Words.{Given, Part}
-use Rattle.pgv_text.specs.Characters.{upper_h, lower_d}
+use Rattle.pgv_characters.specs.Characters.{upper_h, lower_d}
 use Rattle.pgv_types.specs.Ty.{by_oid}
 use Rattle.pgv_copy.specs.CopyPieces.{Advances, Pieces, nothing_came, with_more}
 use Rattle.pgv_copy.specs.declared.pieces.PgCopyNext.{PgCopyNext}

@@ -5,7 +5,7 @@
 use Rattle.std.specs.Prelude.{◌≡◌, ℕ, Bool, true, false, zero, suc, ◌+◌, ◌-◌, ◌/◌, ◌%◌, ◌==◌, nat_lt, if◌then◌else◌, codes, List, [], ◌∷◌, ◌++◌, length, Option, Some, None, ⊤}
 use Rattle.std.specs.List.{flat_map, slice_get}
 use Rattle.std.specs.Io.KnownBytes.{Appends}
-use Rattle.pgv_text.specs.Characters.{tab, line_feed, carriage_return, space, double_quote, comma, digit_zero, colon, upper_d, lower_a, backslash, left_brace, right_brace}
+use Rattle.pgv_characters.specs.Characters.{tab, line_feed, carriage_return, space, double_quote, comma, digit_zero, colon, upper_d, lower_a, backslash, left_brace, right_brace}
 use Rattle.pgv.specs.Words.{Given, Part}
 use Rattle.pgv_row.specs.ColumnView.{Column}
 use Rattle.pgv_row.specs.DataRow.{IsDataRow}

@@ -1,7 +1,7 @@
 -- A statement in a session (PostgreSQL: "Message Flow", "Extended Query"): it is prepared and described, its parameters
 -- are bound, it is executed, and the rows that come are shown.
 use Rattle.std.specs.Prelude.{◌≡◌, ℕ, ◌==◌, List, [], ◌∷◌, ◌++◌, map, slice_set, if◌then◌else◌, Option, Ok}
-use Rattle.pgv_text.specs.Characters.{upper_s}
+use Rattle.pgv_characters.specs.Characters.{upper_s}
 use Rattle.pgv_row.specs.ColumnView.{Column}
 use Rattle.pgv_row.specs.Description.{IsDescription, KnownTypes, in_format}
 use Rattle.pgv_value.specs.declared.value.PgValueFormat.{PgValueFormat}

@@ -1,7 +1,7 @@
 -- What is sent in a session, and what a server answers.
 use Rattle.std.specs.Prelude.{◌≡◌, ℕ, Bool, false, ◌||◌, ◌==◌, List, [], ◌∷◌, map, if◌then◌else◌, Option, Ok, codes}
 use Rattle.std.specs.Io.KnownBytes.{Appends}
-use Rattle.pgv_text.specs.Characters.{upper_a, upper_k, upper_n, upper_s, upper_z}
+use Rattle.pgv_characters.specs.Characters.{upper_a, upper_k, upper_n, upper_s, upper_z}
 use Rattle.pgv_message.specs.Startup.{startup}
 use Rattle.pgv_message.specs.MessageWriting.{Writing}
 use Rattle.pgv_message.specs.declared.startup.PgSetting.{PgSetting}

@@ -1,7 +1,7 @@
 //! A session with a server, over any reader and writer.
 
 ghost use Rattle.std.specs.Prelude.{◌≡◌, [], OnOk, IfOk};
-ghost use Rattle.pgv_text.specs.Characters.{upper_x};
+ghost use Rattle.pgv_characters.specs.Characters.{upper_x};
 ghost use Rattle.pgv_message.specs.Messages.{bare_message};
 ghost use Rattle.pgquery.specs.Incoming.{Lends};
 ghost use Rattle.pgquery.specs.Talks.{Answers, Hears, SendsMessages, Starts, Talks};

@@ -1,7 +1,7 @@
 //! A statement: it is prepared, its parameters are bound, and its rows are shown.
 
 ghost use Rattle.std.specs.Prelude.{◌≡◌, ◌==◌, OnOk, IfOk, string_bytes};
-ghost use Rattle.pgv_text.specs.Characters.{upper_d};
+ghost use Rattle.pgv_characters.specs.Characters.{upper_d};
 ghost use Rattle.pgquery.specs.RowLines.{ShowsAnswer, ShowsBody, Writes};
 ghost use Rattle.pgquery.specs.Statement.{Describes, Prepares, PreparesAtLast, Runs, ShowsAnswers, described, executing};
 ghost use Rattle.pgquery.specs.Statement as statement;

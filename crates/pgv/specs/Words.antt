@@ -20,7 +20,7 @@ pub use Rattle.pgv_codec.specs.ScalarImage.{signed_image, unsigned_image, bool_i
 -- `shown cells` are the bytes that a buffer shows.
 pub use Rattle.pgv_buf.specs.Tokens.{blank, shown}
 -- Characters by name, for texts of one's own; of a text itself, `codes ".."` are the bytes.
-pub use Rattle.pgv_text.specs.Characters.{space, comma, colon, hyphen, dot, slash, digit_zero, digit_nine, left_parenthesis, right_parenthesis, left_brace, right_brace}
+pub use Rattle.pgv_characters.specs.Characters.{space, comma, colon, hyphen, dot, slash, digit_zero, digit_nine, left_parenthesis, right_parenthesis, left_brace, right_brace}
 -- `Part` is what a frame holds: `None` for null, or `Some` bytes. `front bytes` is the frame in front:
 -- `Some (part, rest)`, or `None`; `value_front type format bytes` is it as a value: `Ok (value, rest)`, or `Err` why
 -- there is none.

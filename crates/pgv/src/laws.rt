@@ -15,6 +15,7 @@ pub use pgv_message::laws as message;
 pub use pgv_more::{hstore_laws as hstore, laws as more, numeric_laws as numeric};
 pub use pgv_range::laws as range;
 pub use pgv_row::laws as row;
+pub use pgv_scalar_text::laws as scalar_text;
 pub use pgv_text::laws as text;
 pub use pgv_types::laws as types;
 pub use pgv_user_types::laws as user_types;

@@ -41,17 +41,20 @@ pub mod types {
         PgNumericSign, PgTimeTz,
     };
     pub use pgv_range::PgRange;
-    pub use pgv_text::{IpNetwork, Ipv4Network, Ipv6Network};
+    pub use pgv_scalar_text::{IpNetwork, Ipv4Network, Ipv6Network};
     pub use pgv_types::Oid;
     pub use pgv_value::{PgInterval, PgLQueryParseError, PgLTreeParseError};
 }
 
 /// Readers of whole texts.
 pub mod text {
-    pub use pgv_text::{
-        Elements, Next, NumberFault, Part, Parts, RangeText, TextForm, array_elements, bool_of,
-        char_of, date, date_time, instant, number_of, range_parts, record_fields, time, time_tz,
+    pub use pgv_scalar_text::{
+        NumberFault, bool_of, char_of, date, date_time, instant, number_of, time, time_tz,
         unsigned_number_of,
+    };
+    pub use pgv_text::{
+        Elements, Next, Part, Parts, RangeText, TextForm, array_elements, range_parts,
+        record_fields,
     };
 }
 

@@ -20,7 +20,7 @@ use jiff::civil::{Date, DateTime, Time};
 use pgv_ltree::{PgLQuery, PgLTree};
 use pgv_more::{BitVec, MacAddress, PgBytea, PgCiText, PgHstore, PgMoney, PgNumeric, PgTimeTz};
 use pgv_range::PgRange;
-use pgv_text::IpNetwork;
+use pgv_scalar_text::IpNetwork;
 use pgv_value::{CodecError, PgInterval};
 use reading::read_all;
 use rows::read_rows;

@@ -1,7 +1,7 @@
 -- What the columns of the three statements are read as.
 use Rattle.std.specs.Prelude.{◌≡◌, ℕ, ℤ, pos, Bool, List, Ok, string_bytes, if◌then◌else◌}
 use Rattle.std.specs.Ordering.{int_eq}
-use Rattle.pgv_text.specs.Characters.{lower_a, lower_c, lower_d, lower_e, lower_p, lower_r}
+use Rattle.pgv_characters.specs.Characters.{lower_a, lower_c, lower_d, lower_e, lower_p, lower_r}
 use Rattle.pgv_value.specs.Outcome.{Outcome}
 use Rattle.pgv_catalog.specs.declared.rows.PgFieldRow.{PgFieldRow}
 use Rattle.pgv_catalog.specs.declared.rows.PgLabelRow.{PgLabelRow}

@@ -15,7 +15,7 @@ use Rattle.jiff_core.proofs.DateTimeLemmas.{civil_nanos_range, time_nanos_bound}
 use Rattle.pgv_types.specs.Ty.{Ty}
 use Rattle.pgv_types.specs.declared.oid.Oid.{Oid}
 use Rattle.pgv_buf.specs.Tokens.{bytes}
-use Rattle.pgv_text.specs.DateTimeText.{instant_nanos}
+use Rattle.pgv_scalar_text.specs.DateTimeText.{instant_nanos}
 use Rattle.pgv_value.specs.DateTimeBinary.{day_after, time_after, nanos_after, civil_at, parse_date, parse_time, parse_date_time, parse_instant}
 use Rattle.pgv_value.specs.IntBinary.{fits_signed, whole_number}
 use Rattle.pgv_value.specs.Outcome.{reading_of, without_memory}

@@ -15,7 +15,7 @@ use Rattle.jiff_core.proofs.CalendarLemmas.{days_in_month_bounds}
 use Rattle.jiff_core.proofs.DateLemmas.{days_from_civil-day, days_from_civil-next_month, days_from_civil-next_year, IsEarlier, epoch_day-lt, epoch_day_same, cases_date}
 use Rattle.jiff_core.proofs.DateTimeLemmas.{civil_nanos-parts, time_nanos_bound}
 use Rattle.jiff_core.proofs.StandardFacts.{known_days}
-use Rattle.pgv_text.specs.DateTimeText.{nanos_at}
+use Rattle.pgv_scalar_text.specs.DateTimeText.{nanos_at}
 use Rattle.pgv_value.specs.DateTimeBinary.{nanos_after}
 use Rattle.pgv_codec.specs.DateTimeImage.{micros_of}
 use Rattle.pgv_codec.specs.TimeOfDay.{time_of, time_nanos-time_of, whole_micros, cut_fits}

@@ -8,10 +8,10 @@ use Rattle.std.proofs.lemmas.Bool.{le-leb}
 use Rattle.pgv_types.specs.Ty.{Ty}
 use Rattle.pgv_types.specs.declared.oid.Oid.{Oid}
 use Rattle.pgv_buf.specs.Tokens.{bytes}
-use Rattle.pgv_text.specs.AddressText.{full_prefix}
-use Rattle.pgv_text.specs.NetworkText.{Network, network_of}
-use Rattle.pgv_text.specs.declared.network.IpNetwork.{IpNetwork}
-use Rattle.pgv_text.specs.declared.network.IpNetwork.TheVariants as Versions
+use Rattle.pgv_scalar_text.specs.AddressText.{full_prefix}
+use Rattle.pgv_scalar_text.specs.NetworkText.{Network, network_of}
+use Rattle.pgv_scalar_text.specs.declared.network.IpNetwork.{IpNetwork}
+use Rattle.pgv_scalar_text.specs.declared.network.IpNetwork.TheVariants as Versions
 use Rattle.pgv_value.specs.NetworkBinary.{network_in_binary, parse_address, parse_network}
 use Rattle.pgv_value.specs.Outcome.{reading_of, without_memory}
 use Rattle.pgv_codec.specs.Back.{ReadsBack, always, image_is}

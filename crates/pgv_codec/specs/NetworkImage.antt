@@ -8,8 +8,8 @@ use Rattle.std.specs.declared.net.ip_addr.IpAddr.{IpAddr}
 use Rattle.std.specs.declared.net.ip_addr.IpAddr.TheVariants.{V4, V6}
 use Rattle.pgv_types.specs.Ty.{Ty, builtin}
 use Rattle.pgv_buf.specs.Tokens.{bytes}
-use Rattle.pgv_text.specs.AddressText.{full_prefix}
-use Rattle.pgv_text.specs.NetworkText.{Network}
+use Rattle.pgv_scalar_text.specs.AddressText.{full_prefix}
+use Rattle.pgv_scalar_text.specs.NetworkText.{Network}
 use Rattle.pgv_codec.specs.Encoding.{Image, image_of}
 use Rattle.pgv_codec.specs.ScalarImage.{softly_one_of}
 

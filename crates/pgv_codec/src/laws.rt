@@ -194,7 +194,7 @@ pub fn plain_types_fit()
     ensures date_time { FitsAlways ⟦<jiff::civil::DateTime as ReadBack>⟧.fits }
     ensures timestamp { FitsAlways ⟦<jiff::Timestamp as ReadBack>⟧.fits }
     ensures interval { FitsAlways ⟦<pgv_value::PgInterval as ReadBack>⟧.fits }
-    ensures network { FitsAlways ⟦<pgv_text::IpNetwork as ReadBack>⟧.fits }
+    ensures network { FitsAlways ⟦<pgv_scalar_text::IpNetwork as ReadBack>⟧.fits }
     ensures address { FitsAlways ⟦<std::net::IpAddr as ReadBack>⟧.fits }
 {}
 

@@ -6,7 +6,7 @@ use Rattle.std.specs.List.{list_all}
 use Rattle.std.proofs.Common.{arith}
 use Rattle.std.proofs.lemmas.Bool.{ltb-true, and_from, and_parts}
 use Rattle.std.proofs.lemmas.Bool.Decides.{nat_tests}
-use Rattle.pgv_text.specs.Characters.{comma, dot, vertical_bar, right_brace}
+use Rattle.pgv_characters.specs.Characters.{comma, dot, vertical_bar, right_brace}
 use Rattle.pgv_ltree.specs.Ascii.{are_ascii, ascii_append, ascii_joined, is_ascii}
 use Rattle.pgv_ltree.specs.JoinLemmas.{wider}
 use Rattle.pgv_ltree.specs.TreeBackLemmas.{label_is_ascii}

@@ -7,7 +7,7 @@ use Rattle.std.specs.Str.{all_ascii_digits}
 use Rattle.std.proofs.Common.{arith, ap, sym, ◌∙◌, append_assoc}
 use Rattle.std.proofs.lemmas.Bool.{eqb-true, ltb-true, and_from, not-true, and_parts}
 use Rattle.std.proofs.lemmas.List.{take_at, drop_at}
-use Rattle.pgv_text.specs.Characters.{exclamation_mark, percent_sign, asterisk, comma, dot, at_sign, vertical_bar, right_brace}
+use Rattle.pgv_characters.specs.Characters.{exclamation_mark, percent_sign, asterisk, comma, dot, at_sign, vertical_bar, right_brace}
 use Rattle.pgv_value.specs.declared.tree_error.PgLQueryParseError.{PgLQueryParseError}
 use Rattle.pgv_ltree.specs.TextsInTurn.{read_each}
 use Rattle.pgv_ltree.specs.JoinLemmas.{lacks, other_char, split_again, wider}

@@ -3,7 +3,7 @@ use Rattle.std.specs.Prelude.{◌≡◌, ℕ, nat_le, true, List, [], ◌∷◌,
 use Rattle.std.specs.List.{list_all}
 use Rattle.std.proofs.Common.{ap, ◌∙◌}
 use Rattle.std.proofs.lemmas.Bool.{and_parts}
-use Rattle.pgv_text.specs.Characters.{dot}
+use Rattle.pgv_characters.specs.Characters.{dot}
 use Rattle.pgv_ltree.specs.TextsInTurn.{read_each}
 use Rattle.pgv_ltree.specs.JoinLemmas.{lacks, other_char, split_again, wider}
 use Rattle.pgv_ltree.specs.Labels.{is_label, is_label_char, label_limit, label_read}

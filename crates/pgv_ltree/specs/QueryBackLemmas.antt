@@ -4,7 +4,7 @@ use Rattle.std.specs.Prelude.{◌≡◌, ℕ, not, ◌&&◌, ◌==◌, Bool, tru
 use Rattle.std.specs.List.{join_with_byte, list_all}
 use Rattle.std.proofs.Common.{ap, ◌∙◌}
 use Rattle.std.proofs.lemmas.Bool.{false≢true, not-true, and_parts}
-use Rattle.pgv_text.specs.Characters.{asterisk, vertical_bar}
+use Rattle.pgv_characters.specs.Characters.{asterisk, vertical_bar}
 use Rattle.pgv_types.specs.Ty.{Ty}
 use Rattle.pgv_types.specs.declared.oid.Oid.{Oid}
 use Rattle.pgv_buf.specs.Tokens.{bytes}

@@ -5,7 +5,7 @@
 use Rattle.std.specs.Prelude.{ℕ, ◌==◌, Bool, if◌then◌else◌, codes, List, [], ◌∷◌, ◌++◌, map, Option, Some, None}
 use Rattle.std.specs.Fmt.{decimal}
 use Rattle.std.specs.List.{join_with_byte}
-use Rattle.pgv_text.specs.Characters.{dot, vertical_bar}
+use Rattle.pgv_characters.specs.Characters.{dot, vertical_bar}
 use Rattle.pgv_ltree.specs.Queries.{Variant, Level, star, one_of, none_of}
 
 -- a modifier that is set

@@ -3,7 +3,7 @@ use Rattle.std.specs.Prelude.{ℕ, nat_lt, not, ◌==◌, ◌&&◌, ◌||◌, Bo
 use Rattle.std.specs.List.{list_all, position_or_len, slice_split}
 use Rattle.std.specs.Str.{all_ascii_digits}
 use Rattle.std.specs.Str.Parse.{digits_value}
-use Rattle.pgv_text.specs.Characters.{exclamation_mark, percent_sign, asterisk, comma, dot, at_sign, left_brace, vertical_bar, right_brace}
+use Rattle.pgv_characters.specs.Characters.{exclamation_mark, percent_sign, asterisk, comma, dot, at_sign, left_brace, vertical_bar, right_brace}
 use Rattle.pgv_value.specs.declared.tree_error.PgLTreeParseError.TheVariants.{InvalidLtreeLabel}
 use Rattle.pgv_value.specs.declared.tree_error.PgLQueryParseError.{PgLQueryParseError}
 use Rattle.pgv_value.specs.declared.tree_error.PgLQueryParseError.TheVariants.{EmptyString, UnexpectedCharacter, ParseIntError, LTreeParrseError}

@@ -6,7 +6,7 @@ use Rattle.std.specs.Prelude.{◌≡◌, ◌≢◌, ◌⊎◌, ℕ, ◌<◌, ◌
 use Rattle.std.specs.List.{AllZip, join_with_byte, list_all, list_any}
 use Rattle.std.specs.Str.{all_ascii_digits}
 use Rattle.std.specs.Str.Parse.{digits_value}
-use Rattle.pgv_text.specs.Characters.{exclamation_mark, percent_sign, asterisk, dot, at_sign, vertical_bar}
+use Rattle.pgv_characters.specs.Characters.{exclamation_mark, percent_sign, asterisk, dot, at_sign, vertical_bar}
 use Rattle.pgv_ltree.specs.Labels.{is_label}
 use Rattle.pgv_ltree.specs.Queries.{Variant, Level, star, one_of, none_of}
 

@@ -3,7 +3,7 @@
 -- (`tree_is_read`), and no text is two trees (`one_tree`).
 use Rattle.std.specs.Prelude.{◌≡◌, ◌≢◌, ℕ, ◌==◌, Bool, true, List, [], Result}
 use Rattle.std.specs.List.{join_with_byte, list_all, slice_split}
-use Rattle.pgv_text.specs.Characters.{dot}
+use Rattle.pgv_characters.specs.Characters.{dot}
 use Rattle.pgv_value.specs.declared.tree_error.PgLTreeParseError.{PgLTreeParseError}
 use Rattle.pgv_ltree.specs.TextsInTurn.{first_is, read_each}
 use Rattle.pgv_ltree.specs.Labels.{is_label, label_read}

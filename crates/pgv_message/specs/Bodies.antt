@@ -2,7 +2,7 @@
 -- are C15, a text that isn't UTF-8 is C14, bytes after the last field are C17, and a code that isn't one of its field's
 -- is C30.
 use Rattle.std.specs.Prelude.{ℕ, ◌==◌, List, [], ◌∷◌, length, Ok, Err, if◌then◌else◌}
-use Rattle.pgv_text.specs.Characters.{upper_e, upper_i, upper_t}
+use Rattle.pgv_characters.specs.Characters.{upper_e, upper_i, upper_t}
 use Rattle.pgv_value.specs.declared.error.CodecError.TheVariants.{Short, WrongLength, OutOfRange}
 use Rattle.pgv_value.specs.Fronts.{u32_front, name_front}
 use Rattle.pgv_value.specs.Parsed.{Parsed, ◌>>=◌}

@@ -3,7 +3,7 @@
 use Rattle.std.specs.Prelude.{◌≡◌, ℕ, List, [], ◌∷◌, length, flat_map, Ok}
 use Rattle.std.specs.Int.{w16, to_be_bytes}
 use Rattle.std.specs.List.{AllByRecursion}
-use Rattle.pgv_text.specs.Characters.{upper_b}
+use Rattle.pgv_characters.specs.Characters.{upper_b}
 use Rattle.pgv_value.specs.FrameBinary.{Part, field_bytes, FitsLength}
 use Rattle.pgv_value.specs.declared.value.PgValueFormat.{PgValueFormat}
 use Rattle.pgv_codec.specs.Encoding.{Image}

@@ -1,7 +1,7 @@
 -- Messages of a frontend (PostgreSQL: "Message Formats"), each as the bytes that are sent, or why they are not.
 use Rattle.std.specs.Prelude.{ℕ, codes, List, [], ◌∷◌, length, flat_map}
 use Rattle.std.specs.Int.{w16, w32, to_be_bytes}
-use Rattle.pgv_text.specs.Characters.{upper_c, upper_d, upper_p, upper_q, upper_s, lower_f}
+use Rattle.pgv_characters.specs.Characters.{upper_c, upper_d, upper_p, upper_q, upper_s, lower_f}
 use Rattle.pgv_types.specs.declared.oid.Oid.{Oid}
 use Rattle.pgv_buf.specs.Tokens.{shown}
 use Rattle.pgv_value.specs.declared.value.PgValueFormat.{PgValueFormat}

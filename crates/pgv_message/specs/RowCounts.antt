@@ -1,8 +1,8 @@
 -- How many rows a CommandComplete says (PostgreSQL: "Message Formats", CommandComplete): the number after the last
 -- space of its text.
 use Rattle.std.specs.Prelude.{ℕ, ◌^◌, ◌==◌, nat_lt, List, [], ◌∷◌, Option, Some, None, option_and_then, if◌then◌else◌}
-use Rattle.pgv_text.specs.Characters.{space}
-use Rattle.pgv_text.specs.IntText.{unsigned_value}
+use Rattle.pgv_characters.specs.Characters.{space}
+use Rattle.pgv_scalar_text.specs.IntText.{unsigned_value}
 use Rattle.pgv_value.specs.Text.{is_utf8}
 
 -- the first of two, or else the second

@@ -1,6 +1,6 @@
 -- The bytes that name a server's messages in the extended query (PostgreSQL: "Message Formats").
 use Rattle.std.specs.Prelude.{ℕ, ◌==◌, Option, Some, None, if◌then◌else◌}
-use Rattle.pgv_text.specs.Characters.{digit_one, digit_two, digit_three, upper_a, upper_c, upper_d, upper_e, upper_g, upper_h, upper_i, upper_n, upper_s, upper_t, upper_z, lower_c, lower_d, lower_n, lower_s, lower_t}
+use Rattle.pgv_characters.specs.Characters.{digit_one, digit_two, digit_three, upper_a, upper_c, upper_d, upper_e, upper_g, upper_h, upper_i, upper_n, upper_s, upper_t, upper_z, lower_c, lower_d, lower_n, lower_s, lower_t}
 use Rattle.pgv_message.specs.declared.tag.PgTag.{PgTag}
 use Rattle.pgv_message.specs.declared.tag.PgTag.TheVariants.{ParseComplete, BindComplete, CloseComplete, ParameterDescription, RowDescription, NoData, DataRow, CommandComplete, EmptyQueryResponse, PortalSuspended, CopyOutResponse, CopyInResponse, CopyData, CopyDone, ReadyForQuery, ErrorResponse, NoticeResponse, ParameterStatus, NotificationResponse}
 

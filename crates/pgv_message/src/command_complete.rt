@@ -2,12 +2,12 @@
 
 ghost use Rattle.std.specs.Prelude.{◌≡◌, option_map};
 ghost use Rattle.pgv_value.specs.Parsed.{GivesExactly};
-ghost use Rattle.pgv_text.specs.IntText.{unsigned_value};
+ghost use Rattle.pgv_scalar_text.specs.IntText.{unsigned_value};
 ghost use Rattle.pgv_message.specs.Bodies.{command_complete};
 ghost use Rattle.pgv_message.specs.RowCounts.{after_last_space, within_64, row_count};
 
 use crate::end::check_end;
-use pgv_text::{NumberFault, unsigned_number_of};
+use pgv_scalar_text::{NumberFault, unsigned_number_of};
 use pgv_value::{CodecError, name_in_front};
 
 /// What a command did.

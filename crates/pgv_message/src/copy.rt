@@ -1,6 +1,6 @@
 //! COPY: its data, its end and its failure.
 
-ghost use Rattle.pgv_text.specs.Characters.{lower_c};
+ghost use Rattle.pgv_characters.specs.Characters.{lower_c};
 ghost use Rattle.pgv_message.specs.Messages.{bare_message, copy_data, copy_fail};
 ghost use Rattle.pgv_message.specs.MessageWriting.{Sends};
 

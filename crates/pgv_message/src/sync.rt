@@ -1,6 +1,6 @@
 //! Messages without a body: Sync, Flush and Terminate.
 
-ghost use Rattle.pgv_text.specs.Characters.{upper_h, upper_s, upper_x};
+ghost use Rattle.pgv_characters.specs.Characters.{upper_h, upper_s, upper_x};
 ghost use Rattle.pgv_message.specs.Messages.{bare_message};
 ghost use Rattle.pgv_message.specs.MessageWriting.{Sends};
 

@@ -1,7 +1,7 @@
 -- The text of lists of bits (PostgreSQL: "Bit String Types", 8.10): a digit `0` or `1` for each (`IsBitsText`).
 use Rattle.std.specs.Prelude.{◌≡◌, ◌↔◌, ℕ, ◌==◌, ◌||◌, Bool, List, map, Option, Some, None, if◌then◌else◌}
 use Rattle.std.specs.List.{list_all}
-use Rattle.pgv_text.specs.Characters.{digit_zero, digit_one}
+use Rattle.pgv_characters.specs.Characters.{digit_zero, digit_one}
 
 abbrev pub digit_of : Bool → ℕ
 digit_of bit = if bit then digit_one else digit_zero

@@ -7,7 +7,7 @@ use Rattle.std.specs.Prelude.{◌≡◌, ◌↔◌, ℕ, ◌==◌, ◌&&◌, Boo
 use Rattle.std.specs.Option.{option_and_then}
 use Rattle.std.specs.List.{list_all}
 use Rattle.hex.specs.Hex.{decode_of, is_hex_digit}
-use Rattle.pgv_text.specs.Characters.{backslash, lower_x}
+use Rattle.pgv_characters.specs.Characters.{backslash, lower_x}
 use Rattle.pgv_buf.specs.Tokens.{bytes}
 use Rattle.pgv_codec.specs.Encoding.{Image, image_of}
 use Rattle.pgv_value.specs.Outcome.{Outcome, copied}

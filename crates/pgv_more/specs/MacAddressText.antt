@@ -4,7 +4,7 @@
 use Rattle.std.specs.Prelude.{◌≡◌, ◌↔◌, ◌⊎◌, ℕ, suc, zero, ◌+◌, ◌-◌, ◌*◌, ◌<◌, ◌≤◌, ◌==◌, ◌||◌, nat_lt, Bool, List, [], ◌∷◌, length, Option, Some, None, if◌then◌else◌}
 use Rattle.std.specs.Option.{option_map}
 use Rattle.std.specs.Char.{digit_value}
-use Rattle.pgv_text.specs.Characters.{hyphen, digit_zero, colon, upper_a, lower_a}
+use Rattle.pgv_characters.specs.Characters.{hyphen, digit_zero, colon, upper_a, lower_a}
 
 -- ---- which texts these are
 

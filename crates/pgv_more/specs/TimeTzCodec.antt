@@ -7,7 +7,7 @@
 -- an offset (`time_tz_value`).
 use Rattle.std.specs.Prelude.{ℕ, ◌/◌, nat_lt, if◌then◌else◌, ℤ, pos, neg_ℤ, unsigned_abs, List, ◌++◌, length, drop, Option, Some, None, Ok, ok_or}
 use Rattle.std.specs.Int.{w32, w64, cast_unsigned, to_be_bytes}
-use Rattle.pgv_text.specs.DateTimeText.{time_tz_value, zoned_numbers}
+use Rattle.pgv_scalar_text.specs.DateTimeText.{time_tz_value, zoned_numbers}
 use Rattle.pgv_buf.specs.Tokens.{bytes}
 use Rattle.pgv_codec.specs.Encoding.{Image, image_of, writes}
 use Rattle.pgv_value.specs.DateTimeBinary.{time_after}

@@ -6,7 +6,7 @@ ghost use Rattle.pgv_codec.specs.Appending.{Encodes, Extends};
 ghost use Rattle.pgv_codec.specs.Encoding.{with_hint, writes};
 ghost use Rattle.pgv_types.specs.Relations.{softly};
 ghost use Rattle.pgv_types.specs.Ty.{builtin};
-ghost use Rattle.pgv_text.specs.DateTimeText.{time_tz_value};
+ghost use Rattle.pgv_scalar_text.specs.DateTimeText.{time_tz_value};
 ghost use Rattle.pgv_value.specs.Outcome.{without_memory};
 ghost use Rattle.pgv_value.specs.Parsed.{GivesExactly};
 ghost use Rattle.pgv_more.specs.TimeTzCodec.{time_tz_numbers, time_tz_image, time_tz_in_binary, parse_time_tz, two_numbers, other_way, image_of_numbers};
@@ -14,7 +14,7 @@ ghost use Rattle.pgv_more.specs.TimeTzCodec.{time_tz_numbers, time_tz_image, tim
 use jiff::civil::Time;
 use jiff::tz::Offset;
 use pgv_codec::{Encode, IsNull, PgArgumentBuffer, PgHasArrayType, Plain, Type, micros_of_day};
-use pgv_text::time_tz;
+use pgv_scalar_text::time_tz;
 use pgv_types::{PgType, PgTypeInfo};
 use pgv_value::{CodecError, PgValueFormat, PgValueRef, number_of_eight, number_of_four, time_at};
 use std::alloc::{AllocError, Global};

@@ -9,8 +9,8 @@ use Rattle.std.proofs.lemmas.Str.{IsUtf8-from_ascii, utf8_valid_len-IsUtf8}
 use Rattle.std.proofs.lemmas.Str.Ascii.{IsAscii-nil, IsAscii-cons}
 use Rattle.std.proofs.lemmas.Option.{same_Some}
 use Rattle.pgv_types.specs.declared.oid.Oid.{Oid}
-use Rattle.pgv_text.specs.IntText.{unsigned_value, IsUnsignedNumber, plus_text}
-use Rattle.pgv_text.proofs.ParsedInts.{value_unsigned, unsigned_value_of}
+use Rattle.pgv_scalar_text.specs.IntText.{unsigned_value, IsUnsignedNumber, plus_text}
+use Rattle.pgv_scalar_text.proofs.ParsedInts.{value_unsigned, unsigned_value_of}
 use Rattle.pgv_value.specs.Text.{is_utf8}
 use Rattle.pgv_session.specs.Lines.{text_before, text_after, words, starts_with_plus, with_first, spelled_oid, oid_named, oids_named}
 use Rattle.pgv_session.specs.Spelled.{IsOidWord, SpellsOids}

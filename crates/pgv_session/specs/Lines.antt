@@ -4,9 +4,9 @@
 use Rattle.std.specs.Prelude.{ℕ, ◌==◌, nat_lt, Bool, false, codes, bytes_eq, List, [], ◌∷◌, Option, Some, None, Result, Ok, Err, option_map, if◌then◌else◌}
 use Rattle.hex.specs.Hex.{decode_of}
 use Rattle.hex.specs.declared.error.FromHexError.{FromHexError}
-use Rattle.pgv_text.specs.Characters.{space, plus_sign}
+use Rattle.pgv_characters.specs.Characters.{space, plus_sign}
 use Rattle.pgv_types.specs.declared.oid.Oid.{Oid}
-use Rattle.pgv_text.specs.IntText.{unsigned_value}
+use Rattle.pgv_scalar_text.specs.IntText.{unsigned_value}
 use Rattle.pgv_value.specs.Text.{is_utf8}
 use Rattle.pgv_session.specs.Spelled.{Request, asks, to_add, to_add_null, to_read, asks_holes, resolves, asks_wire, copies}
 

@@ -10,7 +10,7 @@
 use Rattle.std.specs.Prelude.{◌≡◌, ◌≢◌, ℕ, ◌≤◌, ◌==◌, Bool, true, false, codes, decimal, List, [], ◌∷◌, ◌++◌, map, length, Option, Some, None, IfSome, option_map, Ok, Err, zip, if◌then◌else◌}
 use Rattle.std.specs.List.{AllByRecursion}
 use Rattle.hex.specs.Hex.{encode_lower}
-use Rattle.pgv_text.specs.Characters.{space, dollar_sign}
+use Rattle.pgv_characters.specs.Characters.{space, dollar_sign}
 use Rattle.pgv_types.specs.Ty.{Ty}
 use Rattle.pgv_types.specs.Facts.{display_of}
 use Rattle.pgv_types.specs.declared.oid.Oid.{Oid}

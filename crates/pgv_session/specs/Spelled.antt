@@ -12,7 +12,7 @@
 use Rattle.std.specs.Prelude.{◌≡◌, ◌≢◌, ◌≤◌, ◌<◌, ◌+◌, ℕ, codes, List, [], ◌∷◌, ◌++◌, map, length, Option, Some, None}
 use Rattle.std.specs.List.{AllByRecursion}
 use Rattle.std.specs.Int.Digits.{number_from_digits}
-use Rattle.pgv_text.specs.Characters.{space, digit_zero}
+use Rattle.pgv_characters.specs.Characters.{space, digit_zero}
 use Rattle.pgv_types.specs.declared.oid.Oid.{Oid}
 use Rattle.pgv_more.specs.ByteaText.{ArePairs}
 

@@ -3,13 +3,13 @@
 ghost use Rattle.std.specs.Prelude.{◌≡◌, option_map, bytes_eq, IfOk};
 ghost use Rattle.std.specs.Option.{option_copied};
 ghost use Rattle.hex.specs.Hex.{decode_of};
-ghost use Rattle.pgv_text.specs.IntText.{unsigned_value};
+ghost use Rattle.pgv_scalar_text.specs.IntText.{unsigned_value};
 ghost use Rattle.pgv_session.specs.Lines.{text_before, text_after, first_word, after_word, words, starts_with_plus, spelled_oid, oid_named, oids_named, request, given_bytes as bytes_given, alone as alone_by, add_line as added_by, null_line as null_by, resolve_line as resolve_by, read_line as read_by, copy_line as copy_by, hex_bytes as hex_given};
 ghost use Rattle.pgv_session.specs.RequestsView.{request_seen};
 ghost use Rattle.pgv_session.specs.Spelled.{Asks};
 
 use hex::FromHexError;
-use pgv_text::unsigned_number_of;
+use pgv_scalar_text::unsigned_number_of;
 use pgv_types::Oid;
 use std::alloc::{AllocError, Global};
 

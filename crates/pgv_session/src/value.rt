@@ -20,7 +20,7 @@ use pgv_codec::{Codec, Encode, PgArgumentBuffer, Type};
 use pgv_ltree::{PgLQuery, PgLTree};
 use pgv_more::{BitVec, MacAddress, PgBytea, PgCiText, PgHstore, PgMoney, PgNumeric, PgTimeTz};
 use pgv_range::PgRange;
-use pgv_text::IpNetwork;
+use pgv_scalar_text::IpNetwork;
 use pgv_types::{Oid, PgTypeInfo};
 use pgv_value::{CodecError, PgInterval, PgValueFormat, PgValueRef};
 use pgv_wire::PgArguments;

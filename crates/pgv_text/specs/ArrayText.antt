@@ -2,7 +2,7 @@
 -- by `,`, `}`. An element is a list of pieces. Plain is all but `"`, `\`, `,`, `{` and `}`; quotes are not doubled. An
 -- element is null exactly where it is the four plain pieces NULL. Nothing at all between the braces is no element.
 use Rattle.std.specs.Prelude.{ℕ, false, ◌==◌, List, [], ◌∷◌, Option}
-use Rattle.pgv_text.specs.Characters.{left_brace, right_brace}
+use Rattle.pgv_characters.specs.Characters.{left_brace, right_brace}
 use Rattle.pgv_text.specs.NestPieces.{Piece, plain, Form, any, IsNestText}
 
 -- The four plain pieces NULL.

@@ -1,7 +1,7 @@
 -- Which parts of a text are copied when they are read: each that isn't in the text as it is, alone or in quotes.
 use Rattle.std.specs.Prelude.{◌≡◌, ℕ, Bool, true, false, not, ◌&&◌, ◌||◌, ◌==◌, if◌then◌else◌, is_some, List, [], ◌∷◌, Option, Some, None}
 use Rattle.std.specs.Str.{IsUtf8, chars}
-use Rattle.pgv_text.specs.Characters.{double_quote, backslash}
+use Rattle.pgv_characters.specs.Characters.{double_quote, backslash}
 use Rattle.pgv_text.specs.declared.scanner.Class.{Class}
 use Rattle.pgv_text.specs.declared.scanner.Class.TheVariants.{Quote, Backslash, Other}
 use Rattle.pgv_text.specs.declared.scanner.Place.{Place}

@@ -1,6 +1,3 @@
-pub mod Characters
-pub mod IntText
-pub mod ScalarText
 pub mod NestPieces
 pub mod ArrayText
 pub mod RangeText
@@ -17,8 +14,4 @@ pub mod PartsView
 pub mod ElementsView
 pub mod RangeTextView
 pub mod Spellings
-pub mod FieldText
-pub mod DateTimeText
-pub mod AddressText
-pub mod NetworkText
 pub mod NestLaws

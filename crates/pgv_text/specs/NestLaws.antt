@@ -2,7 +2,7 @@
 use Rattle.std.specs.Prelude.{◌≡◌, ◌↔◌, ℕ, true, ◌==◌, List, Some, Option}
 use Rattle.std.specs.List.{AllByRecursion}
 use Rattle.std.specs.Str.{chars, IsUtf8}
-use Rattle.pgv_text.specs.Characters.{left_bracket, right_bracket}
+use Rattle.pgv_characters.specs.Characters.{left_bracket, right_bracket}
 use Rattle.pgv_text.specs.Spellings.{IsOptionalText, IsSpelled, AreEnough, nest_text}
 use Rattle.pgv_text.specs.declared.scanner.TextForm.{TextForm}
 use Rattle.pgv_text.specs.Forms.{form_of}

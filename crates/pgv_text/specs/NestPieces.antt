@@ -12,7 +12,7 @@
 use Rattle.std.specs.Prelude.{◌≡◌, ◌≢◌, ℕ, Bool, true, List, [], ◌∷◌, ◌++◌, length, map, Option, Some, None, not, ◌||◌, ◌==◌}
 use Rattle.std.specs.List.{flat_map, AllByRecursion}
 use Rattle.std.specs.Str.{encode_utf8_all}
-use Rattle.pgv_text.specs.Characters.{double_quote, comma, left_bracket, backslash, right_bracket}
+use Rattle.pgv_characters.specs.Characters.{double_quote, comma, left_bracket, backslash, right_bracket}
 
 -- What is between quotes: a character, a character after a backslash, or a doubled quote.
 pub data Item : Type 0 where

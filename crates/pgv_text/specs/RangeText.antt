@@ -2,7 +2,7 @@
 -- square bracket includes its bound. Pieces are as in records, but all four brackets are excluded from plain. A bound
 -- without pieces is unbounded.
 use Rattle.std.specs.Prelude.{ℕ, Bool, true, ◌==◌, ◌||◌, List, [], ◌∷◌, Option}
-use Rattle.pgv_text.specs.Characters.{left_parenthesis, right_parenthesis, left_bracket, right_bracket}
+use Rattle.pgv_characters.specs.Characters.{left_parenthesis, right_parenthesis, left_bracket, right_bracket}
 use Rattle.pgv_text.specs.NestPieces.{Form, two, IsNestText}
 
 -- `[` or `(`, and `]` or `)`; a part without pieces is unbounded.

@@ -2,7 +2,7 @@
 -- `)`. Plain is all but `"`, `\`, `,`, `(` and `)`. Quotes are doubled, and no quoted piece directly follows another. A
 -- field without pieces is null; `()` has one null field.
 use Rattle.std.specs.Prelude.{ℕ, true, false, ◌==◌, List, [], Option}
-use Rattle.pgv_text.specs.Characters.{left_parenthesis, right_parenthesis}
+use Rattle.pgv_characters.specs.Characters.{left_parenthesis, right_parenthesis}
 use Rattle.pgv_text.specs.NestPieces.{Form, some, IsNestText}
 
 -- `(` and `)`; a field without pieces is null.

@@ -1,7 +1,7 @@
 -- The table of the scanner, and what it makes of bytes.
 use Rattle.std.specs.Prelude.{ℕ, Bool, true, false, if◌then◌else◌, ◌&&◌, ◌==◌, ◌+◌, List, [], ◌∷◌, ◌++◌, length, Option, Some, None}
 use Rattle.std.specs.Option.{option_and_then, option_map}
-use Rattle.pgv_text.specs.Characters.{double_quote, comma, left_bracket, backslash, right_bracket}
+use Rattle.pgv_characters.specs.Characters.{double_quote, comma, left_bracket, backslash, right_bracket}
 use Rattle.pgv_text.specs.declared.scanner.Class.{Class}
 use Rattle.pgv_text.specs.declared.scanner.Class.TheVariants.{Quote, Backslash, Comma, Open, Close, Other}
 use Rattle.pgv_text.specs.declared.scanner.Place.{Place}

@@ -5,7 +5,7 @@ use Rattle.std.specs.Prelude.{◌≡◌, ◌≢◌, ◌⊎◌, ℕ, true, if◌t
 use Rattle.std.specs.Char.{to_ascii_lowercase}
 use Rattle.std.specs.List.{AllByRecursion, flat_map}
 use Rattle.std.specs.Str.{IsUtf8, chars, encode_utf8_all}
-use Rattle.pgv_text.specs.Characters.{double_quote, comma, backslash}
+use Rattle.pgv_characters.specs.Characters.{double_quote, comma, backslash}
 use Rattle.pgv_text.specs.NestPieces.{Form, Count, any, some, two, may_be_plain, spelled, text_of}
 
 -- Null, or UTF-8.

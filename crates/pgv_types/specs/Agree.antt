@@ -5,7 +5,7 @@
 use Rattle.std.specs.Prelude.{◌≡◌, ◌⊎◌, ℕ, ◌==◌, ◌&&◌, ◌||◌, Bool, false, codes, if◌then◌else◌, List, [], ◌∷◌, ◌++◌}
 use Rattle.std.specs.Str.{chars, bytes_eq}
 use Rattle.pgv_types.specs.declared.name.IdentifierChar.{IdentifierChar}
-use Rattle.pgv_types.specs.NameCharacters.{ampersand, upper_u}
+use Rattle.pgv_characters.specs.Characters.{ampersand, upper_u}
 use Rattle.pgv_types.specs.Names.{Significant, AllAlike, AreSignificant, all_alike, walk}
 
 abbrev pub char_seen : IdentifierChar → Significant

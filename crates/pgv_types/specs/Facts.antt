@@ -8,7 +8,7 @@
 --   OID has the name `?`. An array of a name has the name and `[]`.
 -- - The size falls with each step to an element or to a domain's base.
 use Rattle.std.specs.Prelude.{◌≡◌, ℕ, ◌+◌, ◌^◌, ◌==◌, ◌||◌, ltb, Bool, true, false, if◌then◌else◌, Option, Some, None, List, [], ◌∷◌, ◌++◌, codes, option_map}
-use Rattle.pgv_types.specs.NameCharacters.{underscore}
+use Rattle.pgv_characters.specs.Characters.{underscore}
 use Rattle.pgv_types.specs.Suffix.{suffix_of}
 use Rattle.pgv_types.specs.Ty.{Ty, builtin, custom, named, by_oid, array_of, Kind, simple, pseudo, domain, composite, array, enumeration, range, Fields, no_fields, field}
 use Rattle.pgv_types.specs.Table.{TypeEntry, RowKind, a_simple, a_pseudo, range_of, entry_of}

@@ -3,7 +3,7 @@
 -- equal. One side is declared by its OID: yes. Two elements: whether these are softly the same. Else: whether the
 -- catalogue names agree. Exactly is the same without the second rule, and elements are compared exactly.
 use Rattle.std.specs.Prelude.{ℕ, ◌==◌, ◌&&◌, ◌||◌, Bool, true, false, if◌then◌else◌, Option, Some, None, List, [], ◌∷◌}
-use Rattle.pgv_types.specs.NameCharacters.{underscore}
+use Rattle.pgv_characters.specs.Characters.{underscore}
 use Rattle.pgv_types.specs.Agree.{agree}
 use Rattle.pgv_types.specs.Ty.{Ty, builtin, custom, named, by_oid, array_of, Kind, simple, pseudo, domain, composite, array, enumeration, range}
 use Rattle.pgv_types.specs.Facts.{base_oid, name_of, element_oid, element_of}

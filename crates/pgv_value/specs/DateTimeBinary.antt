@@ -6,7 +6,7 @@
 use mir.Syntax.{w32}
 use Rattle.std.specs.Prelude.{ℕ, List, ◌*◌, ◌&&◌, if◌then◌else◌, ℤ, pos, neg_ℤ, ◌+ℤ◌, ◌*ℤ◌, int_le, unsigned_abs, Option, Some, None, Ok, ok_or}
 use Rattle.std.specs.Int.{int_rem_euclid}
-use Rattle.pgv_text.specs.DateTimeText.{date_value, time_value, date_time_value, instant_value, instant_nanos}
+use Rattle.pgv_scalar_text.specs.DateTimeText.{date_value, time_value, date_time_value, instant_value, instant_nanos}
 use Rattle.pgv_value.specs.IntBinary.{whole_number}
 use Rattle.pgv_value.specs.Parsed.{Parsed, ◌>>=◌}
 use Rattle.pgv_value.specs.ScalarGrammar.{int_in_binary, scalar}

@@ -3,8 +3,8 @@ use mir.Val.{hbits}
 use Rattle.std.specs.Prelude.{ℕ, ◌^◌, nat_lt, Bool, ◌||◌, if◌then◌else◌, ℤ, pos, negsuc, List, length, Ok, Err}
 use Rattle.std.specs.Int.{Width}
 use Rattle.byteorder.specs.Endian.{big_number, twos_complement}
-use Rattle.pgv_text.specs.declared.int.NumberFault.{NumberFault}
-use Rattle.pgv_text.specs.declared.int.NumberFault.TheVariants.{Syntax, OutOfRange}
+use Rattle.pgv_scalar_text.specs.declared.int.NumberFault.{NumberFault}
+use Rattle.pgv_scalar_text.specs.declared.int.NumberFault.TheVariants.{Syntax, OutOfRange}
 use Rattle.pgv_value.specs.Parsed.{Parsed}
 use Rattle.pgv_value.specs.declared.error.CodecError.{CodecError}
 use Rattle.pgv_value.specs.declared.error.CodecError.TheVariants.{WrongLength, Syntax as SyntaxRefused, OutOfRange as RangeRefused}

@@ -5,8 +5,8 @@ use Rattle.std.specs.Prelude.{ℕ, ◌+◌, ◌==◌, ◌&&◌, ◌||◌, nat_lt
 use Rattle.std.specs.Net.Addr.{segments_of}
 use Rattle.std.specs.declared.net.ip_addr.IpAddr.{IpAddr}
 use Rattle.std.specs.declared.net.ip_addr.IpAddr.TheVariants.{V4, V6}
-use Rattle.pgv_text.specs.AddressText.{full_prefix}
-use Rattle.pgv_text.specs.NetworkText.{Network, network_with, network_value}
+use Rattle.pgv_scalar_text.specs.AddressText.{full_prefix}
+use Rattle.pgv_scalar_text.specs.NetworkText.{Network, network_with, network_value}
 use Rattle.pgv_value.specs.Parsed.{Parsed, ◌>>=◌}
 use Rattle.pgv_value.specs.ScalarGrammar.{scalar}
 use Rattle.pgv_value.specs.ValueView.{Given}

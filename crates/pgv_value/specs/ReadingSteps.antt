@@ -2,7 +2,7 @@
 use Rattle.std.specs.Prelude.{ℕ, nat_lt, ℤ, List, length, take, drop, Option, Some, None, if◌then◌else◌}
 use Rattle.std.specs.Int.{w16, w32, from_be_bytes, cast_signed}
 -- one step after the other, where each has a value
-pub use Rattle.pgv_text.specs.FieldText.{◌>>=◌}
+pub use Rattle.pgv_scalar_text.specs.FieldText.{◌>>=◌}
 
 -- the number of 32 bits in front, the highest byte first, and what comes after it
 unfoldable pub number : List ℕ → Option (ℕ × List ℕ)

@@ -5,8 +5,8 @@
 use Rattle.std.specs.Prelude.{ℕ, Bool, not, ◌==◌, if◌then◌else◌, ℤ, List, [], ◌∷◌, length, Option, Some, None, Ok, Err, ok_or}
 use Rattle.std.specs.Int.{Width, w8}
 use Rattle.uuid.specs.Text.{parsed}
-use Rattle.pgv_text.specs.IntText.{number_value, unsigned_value}
-use Rattle.pgv_text.specs.ScalarText.{bool_value, char_value}
+use Rattle.pgv_scalar_text.specs.IntText.{number_value, unsigned_value}
+use Rattle.pgv_scalar_text.specs.ScalarText.{bool_value, char_value}
 use Rattle.pgv_value.specs.Fronts.{u32_front}
 use Rattle.pgv_value.specs.IntBinary.{whole_number, within, within_32}
 use Rattle.pgv_value.specs.Parsed.{Parsed, ◌>>=◌}

@@ -7,7 +7,7 @@ ghost use Rattle.pgv_value.specs.IntBinary.{refusal_of};
 ghost use Rattle.pgv_value.specs.TreeErrors.{tree_refused, query_refused};
 
 use crate::tree_error::{PgLQueryParseError, PgLTreeParseError};
-use pgv_text::NumberFault;
+use pgv_scalar_text::NumberFault;
 use pgv_types::Oid;
 use std::alloc::{AllocError, AllocFailed};
 use thiserror::Error;

@@ -1,7 +1,7 @@
 //! Laws that say what networks and addresses are, as [`rows`](super::rows) does for other types.
 
 ghost use Rattle.pgv_types.specs.Ty.{builtin};
-ghost use Rattle.pgv_text.specs.NetworkText.{network_of};
+ghost use Rattle.pgv_scalar_text.specs.NetworkText.{network_of};
 ghost use Rattle.pgv_value.specs.Outcome.{without_memory};
 ghost use Rattle.pgv_value.specs.NetworkBinary.{parse_address, parse_network};
 ghost use Rattle.pgv_codec.specs.Encoding.{with_hint, writes};
@@ -9,7 +9,7 @@ ghost use Rattle.pgv_codec.specs.NetworkImage.{address_hint, address_image, is_n
 ghost use Rattle.pgv_codec.specs.TypeRow.{HasArrayType, HasType, IsReadAs, IsWrittenAs};
 
 use pgv_codec::{Decode, Encode, PgHasArrayType, Type};
-use pgv_text::IpNetwork;
+use pgv_scalar_text::IpNetwork;
 use std::net::IpAddr;
 
 /// An `IpNetwork` is an inet (OID 869), as `020800040a000000` for `10.0.0.0/8`. It is read under cidr and inet. Its

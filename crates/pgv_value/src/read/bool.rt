@@ -5,7 +5,7 @@ ghost use Rattle.pgv_value.specs.Parsed.{GivesExactly};
 
 use crate::error::CodecError;
 use crate::value::{PgValueFormat, PgValueRef};
-use pgv_text::bool_of;
+use pgv_scalar_text::bool_of;
 
 /// Reads a `bool`: in binary whether the first byte is other than zero, whatever comes after it, and in text `t` or
 /// `f`. No byte is refused with [`Short`](CodecError::Short) (C15), and another text with

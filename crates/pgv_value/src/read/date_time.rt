@@ -3,7 +3,7 @@
 ghost use Rattle.std.specs.Prelude.{◌≡◌};
 ghost use Rattle.std.specs.Option.{option_map};
 ghost use Rattle.jiff.specs.Words.{civil_nanos, epoch_day, time_nanos};
-ghost use Rattle.pgv_text.specs.DateTimeText.{instant_nanos};
+ghost use Rattle.pgv_scalar_text.specs.DateTimeText.{instant_nanos};
 ghost use Rattle.pgv_value.specs.DateTimeBinary.{civil_at, day_after, nanos_after, time_after};
 ghost use Rattle.pgv_value.specs.DateTimeBinary.{date_of_bytes, parse_date, parse_date_time, parse_instant, parse_time};
 ghost use Rattle.pgv_value.specs.Parsed.{GivesExactly};
@@ -13,7 +13,7 @@ use crate::error::CodecError;
 use crate::value::{PgValueFormat, PgValueRef};
 use jiff::Timestamp;
 use jiff::civil::{Date, DateTime, Time};
-use pgv_text::{date, date_time, instant, time};
+use pgv_scalar_text::{date, date_time, instant, time};
 
 /// The days from 1970-01-01 to 2000-01-01, from which dates are counted.
 pub const FIRST_DAY: i32 = 10_957;

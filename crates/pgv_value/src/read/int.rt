@@ -10,7 +10,7 @@ ghost use Rattle.pgv_value.specs.declared.error.CodecError.TheVariants.{OutOfRan
 use crate::error::CodecError;
 use crate::value::{PgValueFormat, PgValueRef};
 use byteorder::{BigEndian, ByteOrder};
-use pgv_text::{char_of, number_of};
+use pgv_scalar_text::{char_of, number_of};
 use std::num::TryFromIntError;
 
 /// A number that was made one of another type: [`OutOfRange`](CodecError::OutOfRange) (C30) where that type doesn't

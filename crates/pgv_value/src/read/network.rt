@@ -1,7 +1,7 @@
 //! Networks and addresses.
 
 ghost use Rattle.std.specs.Prelude.{◌≡◌, ℕ, ◌∷◌};
-ghost use Rattle.pgv_text.specs.NetworkText.{network_of};
+ghost use Rattle.pgv_scalar_text.specs.NetworkText.{network_of};
 ghost use Rattle.pgv_value.specs.NetworkBinary.{address_binary, address_refused};
 ghost use Rattle.pgv_value.specs.NetworkBinary.{network_in_binary, network_in_text, parse_address, parse_network, with_prefix};
 ghost use Rattle.pgv_value.specs.NetworkBinary as spec;
@@ -9,7 +9,7 @@ ghost use Rattle.pgv_value.specs.Parsed.{GivesExactly};
 
 use crate::error::CodecError;
 use crate::value::{PgValueFormat, PgValueRef};
-use pgv_text::IpNetwork;
+use pgv_scalar_text::IpNetwork;
 use std::net::{IpAddr, Ipv4Addr, Ipv6Addr};
 
 /// The address of a family, the number of its octets as it is written, and the octets.

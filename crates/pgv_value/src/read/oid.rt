@@ -7,7 +7,7 @@ use crate::error::CodecError;
 use crate::front::u32_in_front;
 use crate::read::int::in_type;
 use crate::value::{PgValueFormat, PgValueRef};
-use pgv_text::unsigned_number_of;
+use pgv_scalar_text::unsigned_number_of;
 use pgv_types::Oid;
 
 /// Reads an `oid`: in binary the first four bytes, the highest first, whatever comes after them, and in text perhaps

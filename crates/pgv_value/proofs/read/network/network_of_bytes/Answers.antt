@@ -1,5 +1,5 @@
 use Rattle.std.proofs.Common.{get_or, subst}
-use Rattle.pgv_text.specs.NetworkText.{network_of}
+use Rattle.pgv_scalar_text.specs.NetworkText.{network_of}
 use Rattle.pgv_value.specs.NetworkBinary.{network_in_binary}
 use Rattle.pgv_value.specs.Parsed.{GivesExactly}
 use Rattle.pgv_value.proofs.Numbers.{four_and_octets}

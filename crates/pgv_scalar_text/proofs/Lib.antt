@@ -1,0 +1,10 @@
+pub mod ParsedInts
+pub mod Calendar
+pub mod DigitFields
+pub mod Addresses
+pub mod Fractions
+pub mod Clocks
+pub mod Computed
+pub mod Offsets
+pub mod Instants
+pub mod Networks

@@ -1,0 +1,13 @@
+use Rattle.std.proofs.Common.{Ok, Err}
+use Rattle.pgv_scalar_text.proofs.ParsedInts.{read_ok, fault_read, computed}
+use Rattle.pgv_scalar_text.proofs.int.number_of.Goals as goal
+
+pub returns-in-Ok : goal.returns-in-Ok
+returns-in-Ok c =
+    let read = read_ok c.args.text.now c.in-Ok.number c.in-Ok.ensures.value.0 in
+    computed c.args.text.now (Ok _) read
+
+pub returns-in-Err : goal.returns-in-Err
+returns-in-Err c =
+    let read = fault_read c.args.text.now c.without_sign.result.now c.is_numeral.result c.fault_of.result (cc) c.is_numeral.ensures c.fault_of.ensures c.in-Err.ensures.value.0 in
+    computed c.args.text.now (Err c.fault_of.result) read

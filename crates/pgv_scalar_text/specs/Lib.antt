@@ -1,0 +1,6 @@
+pub mod IntText
+pub mod ScalarText
+pub mod FieldText
+pub mod DateTimeText
+pub mod AddressText
+pub mod NetworkText
