@@ -1,4 +1,4 @@
--- The characters of ASCII that texts and messages give a meaning, each by a name. A letter is `upper_..` or `lower_..`
+-- The characters of ASCII that texts, names and messages give a meaning, each by a name. A letter is `upper_..` or `lower_..`
 -- by its case.
 use Rattle.std.specs.Prelude.{ℕ}
 
@@ -25,6 +25,9 @@ dollar_sign = 36
 
 abbrev pub percent_sign : ℕ
 percent_sign = 37
+
+abbrev pub ampersand : ℕ
+ampersand = 38
 
 abbrev pub left_parenthesis : ℕ
 left_parenthesis = 40
@@ -118,6 +121,9 @@ upper_s = 83
 
 abbrev pub upper_t : ℕ
 upper_t = 84
+
+abbrev pub upper_u : ℕ
+upper_u = 85
 
 abbrev pub upper_x : ℕ
 upper_x = 88
