@@ -1,5 +1,5 @@
--- The characters of ASCII that texts, names and messages give a meaning, each by a name. A letter is `upper_..` or `lower_..`
--- by its case.
+-- The characters of ASCII that texts, names and messages give a meaning, each by a name. A letter is `upper_..` or
+-- `lower_..` by its case.
 use Rattle.std.specs.Prelude.{ℕ}
 
 abbrev pub tab : ℕ

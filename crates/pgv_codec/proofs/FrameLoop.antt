@@ -3,7 +3,7 @@ use Rattle.std.proofs.Common.{◌≡◌, ◌≢◌, ℕ, zero, suc, ◌+◌, ◌
 use Rattle.std.proofs.lemmas.Bool.{lt-ltb}
 use Rattle.std.proofs.lemmas.List.{append-nil, length-map, length_push, map_push}
 use Rattle.std.proofs.lemmas.Nat.{le-div}
-use Rattle.std.proofs.Math.Nat.{div-mul-le_self, le-min, min-le_left, min-le_right, mul-le-mul_left}
+use Rattle.std.proofs.Math.Nat.{div-mul-le_self, le-div_iff_mul-le, le-min, min-le_left, min-le_right, mul-le-mul_left}
 use Rattle.pgv_types.specs.Ty.{Ty}
 use Rattle.pgv_value.specs.Fronts.{value_front}
 use Rattle.pgv_value.specs.Outcome.{Outcome, Fails, done, bind_by}
@@ -132,3 +132,14 @@ room_for place count long width room lt le =
     let b = min-le_right count (long / (4 + width)) in
     let both : place + 1 ≤ min count (long / 4) = le-min {k = place + 1} {a = count} {b = long / 4} (omega (arith, lt, a)) (omega (arith, lt, b, fewer)) in
     omega (arith, both, le)
+
+-- as many frames of one width as a list has whole ones are within it: those before a place, with the one there, and all
+pub frame_within : (place count long width : ℕ) → place < min count (long / (4 + width)) → place * (4 + width) + (4 + width) ≤ long
+frame_within place count long width lt =
+    let few : place + 1 ≤ long / (4 + width) = omega (arith, lt, min-le_right count (long / (4 + width))) in
+    let all : (place + 1) * (4 + width) ≤ long = (le-div_iff_mul-le {k = 4 + width} {x = place + 1} {y = long} (omega arith)).0 few in
+    let step : (place + 1) * (4 + width) ≡ place * (4 + width) + (4 + width) = rw add-one (suc-mul place (4 + width)) in
+    omega (arith, all, step)
+
+pub frames_within : (count long width : ℕ) → min count (long / (4 + width)) * (4 + width) ≤ long
+frames_within count long width = (le-div_iff_mul-le {k = 4 + width} {x = min count (long / (4 + width))} {y = long} (omega arith)).0 (min-le_right count (long / (4 + width)))

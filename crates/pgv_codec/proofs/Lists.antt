@@ -9,6 +9,7 @@ use Rattle.pgv_buf.specs.Tokens.{Token, Cell, hole, bytes, be4, blank}
 use Rattle.pgv_buf.specs.Blank.{blank-append}
 use Rattle.pgv_value.specs.Outcome.{Outcome, Fails, after, bind_by, done}
 use Rattle.pgv_value.specs.declared.error.CodecError.{CodecError}
+use Rattle.pgv_value.specs.declared.error.CodecError.TheVariants.{ArrayLength, Memory}
 use Rattle.pgv_codec.specs.PlainBytes.{bytes-append}
 use Rattle.pgv_codec.proofs.OneFrame.{plain_frame}
 use Rattle.pgv_codec.specs.Encoding.{Encoding, Image, image_of, plainly, writes, frame, frames, typed, header, array_image, written_element, field, value_type}
@@ -194,6 +195,30 @@ module _ {X : Type 0} (encoding : X → Encoding) where
       let many : length (map encoding xs) ≡ length xs = length-map xs encoding in
       let small : nat_lt 2147483647 (length xs) ≡ false = le-ltb _ _ le in
       rw (many, small, head_is, parts_are) refl
+
+  -- why a list has no image: it is too long, or memory runs out after that was tested, or a frame is refused
+  pub array_long : (info : Ty) (xs : List X) → 2147483647 < length xs → Fails (ArrayLength (length xs)) (array_image info (map encoding xs))
+  unfolding array_image
+  array_long info xs lt =
+      let long : nat_lt 2147483647 (length xs) ≡ true = lt-ltb _ _ lt in
+      rw (length-map xs encoding, long) (inl refl)
+
+  pub array_asks : (info : Ty) (xs : List X) → length xs ≤ 2147483647 → Fails Memory (array_image info (map encoding xs))
+  unfolding array_image
+  array_asks info xs le =
+      let small : nat_lt 2147483647 (length xs) ≡ false = le-ltb _ _ le in
+      rw (length-map xs encoding, small) (inr (inr (refl, refl)))
+
+  pub array_unwritten : (info : Ty) (xs : List X) (head : List Token) (e : CodecError) → length xs ≤ 2147483647 → (header (written_element info (map encoding xs)) (length xs)).answer ≡ Ok head → Fails e (after true (still xs)) →
+      Fails e (array_image info (map encoding xs))
+  unfolding array_image
+  array_unwritten info xs head e le head_is (inl h) =
+      let small : nat_lt 2147483647 (length xs) ≡ false = le-ltb _ _ le in
+      inl (rw (length-map xs encoding, small, head_is, h) refl)
+  array_unwritten info xs head e le head_is (inr (inl h)) =
+      let small : nat_lt 2147483647 (length xs) ≡ false = le-ltb _ _ le in
+      inr (inl (rw (length-map xs encoding, small, head_is, h.0) refl, h.1))
+  array_unwritten info xs head e le head_is (inr (inr h)) = rw h.0 (array_asks info xs le)
 
 -- the frame of an image of four bytes
 pub word_is : (image : Option Image) (word : List ℕ) → image ≡ Some (image_of (bytes word)) → length word ≡ 4 → (frame (plainly (writes image))).answer ≡ Ok (bytes (word_frame word))

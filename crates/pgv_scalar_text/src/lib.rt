@@ -1,6 +1,6 @@
 //! Readers of the texts that PostgreSQL writes for values that are not made of others: whole numbers, the type "char",
-//! truth values, dates, times and networks. They know no types and no wire format, and each returns a value exactly where
-//! the text is in its grammar.
+//! truth values, dates, times and networks. They know no types and no wire format, and each returns a value exactly
+//! where the text is in its grammar.
 #![tactic(auto)]
 
 pub mod bool;

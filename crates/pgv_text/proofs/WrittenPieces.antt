@@ -15,7 +15,7 @@ use Rattle.pgv_text.proofs.Nests.{as_many, nest_within}
 use lib.Utf8.{low_scalar}
 use Rattle.pgv_text.proofs.CharacterClasses.{opens_low, closes_low}
 use Rattle.pgv_text.specs.Spellings.{IsOptionalText, escaped_character, doubled_character, quoted_by, MayBeBare, IsSpelled, AreEnough, by_commas, nest_text}
-use Rattle.pgv_text.proofs.Characters.{AreScalars, scalars_are, all_append, all_parts, parts_scalars, values_are_texts, characters_of}
+use Rattle.pgv_text.proofs.ScalarCharacters.{AreScalars, scalars_are, all_append, all_parts, parts_scalars, values_are_texts, characters_of}
 use Rattle.pgv_text.specs.NestLaws.{SpelledReadsBack, ValuesAreTexts}
 
 -- one character between quotes

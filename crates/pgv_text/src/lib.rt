@@ -1,6 +1,6 @@
-//! Readers of the texts that PostgreSQL writes for values that are made of others: the lists of optional texts in arrays,
-//! ranges and records. They know no types and no wire format, and each returns a value exactly where the text is in its
-//! grammar.
+//! Readers of the texts that PostgreSQL writes for values that are made of others: the lists of optional texts in
+//! arrays, ranges and records. They know no types and no wire format, and each returns a value exactly where the text
+//! is in its grammar.
 #![tactic(auto)]
 
 pub mod elements;

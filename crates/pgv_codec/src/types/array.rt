@@ -29,7 +29,6 @@ use std::alloc::{AllocError, Global};
 /// Appends the elements as an array of one dimension, for a caller's own encoder. More than 2147483647 are refused with
 /// [`ArrayLength`](CodecError::ArrayLength) (C3). A refusal may have appended something.
 #[inline(always)]
-#[tactic(auto, unfolding(crate::specs::Encoding::array_image))]
 pub fn encode_array<T: Encode + Type>(
     values: &[T],
     out: &mut PgArgumentBuffer,

@@ -1,5 +1,5 @@
 use Rattle.std.proofs.Common.{◌≡◌, ◌∙◌, ℕ, ◌+◌, ◌*◌, map, length, ap, refl, zero-mul, arith}
-use Rattle.pgv_codec.proofs.FrameLoop.{first_ends, first_none, first_step, room_for}
+use Rattle.pgv_codec.proofs.FrameLoop.{first_ends, first_none, first_step, frame_within, frames_within, room_for}
 use Rattle.pgv_codec.proofs.types.array.read_first.Goals as goal
 
 pub loop-place-init : goal.loop-place-init
@@ -32,3 +32,26 @@ returns g c = (
       c.loop-place.auto.place-end c.loop-place-test.false c.split_at-2.ensures.back c.loop-place.invariant.3,
   omega (arith, c.loop-place.invariant.1, c.loop-place.auto.place-end, c.loop-place-test.false, c.min-whole.ensures),
 )
+
+pub overflow_mul-place : goal.overflow_mul-place
+overflow_mul-place g c =
+    let h = frame_within c.loop-place.place c.args.count (length c.args.bytes.now) c.width_at_once-width.result (rw (← c.min-whole.ensures) c.loop-place-test.true) in
+    omega (arith, h)
+
+pub split_at-requires : goal.split_at-requires
+split_at-requires g c =
+    let h = frame_within c.loop-place.place c.args.count (length c.args.bytes.now) c.width_at_once-width.result (rw (← c.min-whole.ensures) c.loop-place-test.true) in
+    omega (arith, h)
+
+pub in_front-requires-clause-there : goal.in_front-requires-clause-there
+in_front-requires-clause-there g c =
+    let h = frame_within c.loop-place.place c.args.count (length c.args.bytes.now) c.width_at_once-width.result (rw (← c.min-whole.ensures) c.loop-place-test.true) in
+    omega (arith, h, c.split_at.ensures.back_len)
+
+pub overflow_mul-whole : goal.overflow_mul-whole
+overflow_mul-whole g c =
+    let h = frames_within c.args.count (length c.args.bytes.now) c.width_at_once-width.result in
+    omega (arith, h, c.min-whole.ensures, rw (← c.min-whole.ensures) at h)
+
+pub split_at-requires-2 : goal.split_at-requires-2
+split_at-requires-2 g c = rw c.min-whole.ensures (frames_within c.args.count (length c.args.bytes.now) c.width_at_once-width.result)
