@@ -7,3 +7,4 @@ pub mod PlainFits
 pub mod StepOutcomes
 pub mod FieldTypes
 pub mod ArrayGrammars
+pub mod Extensions

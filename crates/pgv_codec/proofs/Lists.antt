@@ -230,6 +230,16 @@ pub field_there : (info : Ty) (e : Encoding) (oid part : List Token) → (typed 
 unfolding field
 field_there info e oid part a b = rw (a, b) refl
 
+pub field_asks : (info : Ty) (e : Encoding) → Fails Memory (field info e)
+unfolding field
+field_asks info e = inr (inr (refl, refl))
+
+pub field_unwritten : (info : Ty) (e : Encoding) (oid : List Token) (why : CodecError) → (typed (value_type info e)).answer ≡ Ok oid → Fails why (frame e) → Fails why (field info e)
+unfolding field
+field_unwritten info e oid why a (inl h) = inl (rw (a, h) refl)
+field_unwritten info e oid why a (inr (inl h)) = inr (inl (rw (a, h.0) refl, h.1))
+field_unwritten info e oid why a (inr (inr h)) = rw h.0 (field_asks info e)
+
 -- ---- four bytes, taken apart
 
 abbrev quad : List ℕ → List ℕ

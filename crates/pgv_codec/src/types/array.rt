@@ -85,7 +85,6 @@ fn known_header(oid: u32, count: u32) -> [u8; 20]
 
 /// What comes before the elements: one dimension and no flags, their type, their number and the lower bound 1.
 #[inline(always)]
-#[tactic(auto, using(crate::proofs::Lists::header_known))]
 fn write_header(
     out: &mut PgArgumentBuffer,
     element: PgTypeInfo,

@@ -85,7 +85,6 @@ impl<'a> PgRecordEncoder<'a> {
 }
 
 /// One field: its type, and its frame.
-#[tactic(auto, unfolding(crate::specs::Encoding::field))]
 fn encode_field<T: Encode + Type>(out: &mut PgArgumentBuffer, value: &T) -> Result<(), CodecError>
     ensures exact { Appends (field T.info (T.encoding value.now)) out.old out.new result }
     ensures appended { OnErr result (Extends out.old out.new) }

@@ -1,9 +1,10 @@
 use Rattle.std.proofs.Common.{List, ◌++◌, length, map, subst, arith}
 use Rattle.std.proofs.lemmas.Result.{err_from_is_err_and}
 use Rattle.pgv_types.specs.Ty.{Ty}
-use Rattle.pgv_buf.specs.Tokens.{Cell}
+use Rattle.pgv_buf.specs.Tokens.{Cell, blank}
 use Rattle.pgv_codec.specs.Encoding.{header, written_element}
 use Rattle.pgv_codec.specs.Appending.{Appended}
+use Rattle.pgv_codec.proofs.Extensions.{extends_further, extends_itself, on_err}
 use Rattle.pgv_codec.proofs.Lists.{both, array_asks, array_long, array_there, array_unwritten}
 use Rattle.pgv_codec.proofs.types.array.encode_array.Goals as goal
 
@@ -48,3 +49,20 @@ returns-in_err-write_frames-clause-encodes g c =
     subst (λ (u : Ty). Appended (header u (length xs)) c.reserve.new.self c.write_header.new.out) c.in_ok-element.ensures c.in_ok-write_header.ensures.ok in
     let p = err_from_is_err_and c.from_residual-in_err-write_frames.result c.from_residual-in_err-write_frames.ensures.1 in
     rw (p.1, p.2) (array_unwritten g.T.Encode.encoding g.T.Type.info xs h.0 c.in_err-write_frames.field-0.0 (omega (arith, c.if-count.false)) h.1 c.in_err-write_frames.ensures.exact)
+
+pub returns-then-count-clause-appended : goal.returns-then-count-clause-appended
+returns-then-count-clause-appended g c = extends_itself c.args.out.now
+
+pub returns-in_err-element-clause-appended : goal.returns-in_err-element-clause-appended
+returns-in_err-element-clause-appended g c = on_err c.from_residual.result (extends_itself c.args.out.now)
+
+pub returns-in_err-reserve-clause-appended : goal.returns-in_err-reserve-clause-appended
+returns-in_err-reserve-clause-appended g c = on_err c.from_residual-in_err-reserve.result (rw c.in_err-reserve.ensures.same (extends_itself c.args.out.now))
+
+pub returns-in_err-write_header-clause-appended : goal.returns-in_err-write_header-clause-appended
+returns-in_err-write_header-clause-appended g c = on_err c.from_residual-in_err-write_header.result (rw c.reserve.ensures.same at c.in_err-write_header.ensures.appended)
+
+pub returns-in_err-write_frames-clause-appended : goal.returns-in_err-write_frames-clause-appended
+returns-in_err-write_frames-clause-appended g c =
+    let head = rw c.reserve.ensures.same at c.in_ok-write_header.ensures.ok in
+    on_err c.from_residual-in_err-write_frames.result (extends_further c.args.out.now c.write_header.new.out c.write_frames.new.out (blank head.0, head.2) c.in_err-write_frames.ensures.appended)
