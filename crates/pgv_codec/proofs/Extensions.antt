@@ -1,5 +1,5 @@
 -- A buffer that was only appended to, by one call after another.
-use Rattle.std.proofs.Common.{◌≡◌, List, [], ◌++◌, Result, Ok, Err, OnErr, sym, ap, ◌∙◌, append_assoc, append-nil}
+use Rattle.std.proofs.Common.{List, [], ◌++◌, Result, Ok, Err, OnErr, sym, ap, ◌∙◌, append_assoc, append-nil}
 use Rattle.pgv_buf.specs.Tokens.{Cell}
 use Rattle.pgv_codec.specs.Appending.{Extends}
 
