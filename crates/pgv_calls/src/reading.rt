@@ -80,6 +80,13 @@ fn tuple(alloc: Global, row: &PgRow<'_>, number: &str) -> Result<String, CodecEr
         "2" => fields::<(i32, Option<String>)>(alloc, row),
         "3" => fields::<(i32, i32, i32)>(alloc, row),
         "4" => fields::<(i32, i32, i32, i32)>(alloc, row),
+        _ => longer_tuple(alloc, row, number),
+    }
+}
+
+/// The same of five columns or more.
+fn longer_tuple(alloc: Global, row: &PgRow<'_>, number: &str) -> Result<String, CodecError> {
+    match number {
         "5" => fields::<(i32, i32, i32, i32, i32)>(alloc, row),
         "6" => fields::<(i32, i32, i32, i32, i32, i32)>(alloc, row),
         "7" => fields::<(i32, i32, i32, i32, i32, i32, i32)>(alloc, row),
@@ -108,6 +115,18 @@ pub fn in_one_pass(
         "2" => person(alloc, columns, body),
         "3" => passed::<(i32, i32, i32)>(alloc, columns, body),
         "4" => passed::<(i32, i32, i32, i32)>(alloc, columns, body),
+        _ => longer_in_one_pass(alloc, columns, body, number),
+    }
+}
+
+/// The same of five fields or more.
+fn longer_in_one_pass(
+    alloc: Global,
+    columns: &PgColumns<'_>,
+    body: &[u8],
+    number: &str,
+) -> Result<String, CodecError> {
+    match number {
         "5" => passed::<(i32, i32, i32, i32, i32)>(alloc, columns, body),
         "6" => passed::<(i32, i32, i32, i32, i32, i32)>(alloc, columns, body),
         "7" => passed::<(i32, i32, i32, i32, i32, i32, i32)>(alloc, columns, body),

@@ -32,8 +32,15 @@ fn first_of<'a, B: Blocks>(
     }
 }
 
-/// Compares all blocks of standard input, and prints what differs. Where nothing does, it prints `ok`, and after it how
-/// many calls were made again, if any.
+/// Prints that all rows hold, and how many calls were made again, if any.
+fn print_ok(tries: &Tries, rt: &impl Print) -> Result<(), Fault> {
+    match tries.again() {
+        0 => println!(rt; "ok").or(Err(Fault::Write)),
+        again => println!(rt; "ok again {again}").or(Err(Fault::Write)),
+    }
+}
+
+/// Compares all blocks of standard input, and prints what differs, or `ok`. Whether all rows hold.
 fn compared<B: Blocks>(blocks: &B, rt: &(impl AllocGlobal + Input + Print)) -> Result<bool, Fault> {
     let tries = Tries::new();
     let read = read_all(rt.alloc(), &tries, &mut rt.reader())?;
@@ -44,10 +51,8 @@ fn compared<B: Blocks>(blocks: &B, rt: &(impl AllocGlobal + Input + Print)) -> R
             println!(rt; "{row}").or(Err(Fault::Write))?;
         }
     }
-    match tries.again() {
-        _ if !all => {}
-        0 => println!(rt; "ok").or(Err(Fault::Write))?,
-        again => println!(rt; "ok again {again}").or(Err(Fault::Write))?,
+    if all {
+        print_ok(&tries, rt)?;
     }
     Ok(all)
 }

@@ -117,6 +117,7 @@ fn at_own<V: AtType>(
     }
 }
 
+/// At lists of numbers and texts.
 fn at_list<V: AtType>(
     visitor: &V,
     alloc: Global,
@@ -128,6 +129,18 @@ fn at_list<V: AtType>(
         "Vec<Option<i32>>" => Some(visitor.shown::<Vec<Option<i32>>>(alloc, value)),
         "Vec<String>" => Some(visitor.shown::<Vec<String>>(alloc, value)),
         "Vec<Option<String>>" => Some(visitor.shown::<Vec<Option<String>>>(alloc, value)),
+        _ => at_list_of_nests(visitor, alloc, name, value),
+    }
+}
+
+/// At lists of records, arrays and ranges.
+fn at_list_of_nests<V: AtType>(
+    visitor: &V,
+    alloc: Global,
+    name: &str,
+    value: PgValueRef<'_>,
+) -> Option<V::Answer> {
+    match name {
         "Vec<(i32,)>" => Some(visitor.read::<Vec<(i32,)>>(alloc, value)),
         "Vec<(i32, String)>" => Some(visitor.read::<Vec<(i32, String)>>(alloc, value)),
         "Vec<[Option<String>; 64]>" => {
@@ -136,10 +149,22 @@ fn at_list<V: AtType>(
         "Vec<Option<PgRange<i32>>>" => {
             Some(visitor.whole::<Vec<Option<PgRange<i32>>>>(alloc, value))
         }
+        _ => at_further_list(visitor, alloc, name, value),
+    }
+}
+
+/// At lists of further types, and of a caller's own.
+fn at_further_list<V: AtType>(
+    visitor: &V,
+    alloc: Global,
+    name: &str,
+    value: PgValueRef<'_>,
+) -> Option<V::Answer> {
+    match name {
         "Vec<Uuid>" => Some(visitor.whole::<Vec<Uuid>>(alloc, value)),
         "Vec<BitVec>" => Some(visitor.whole::<Vec<BitVec>>(alloc, value)),
-        "Vec<Mood>" => Some(visitor.shown::<Vec<PgEnum<Mood>>>(alloc, value)),
         "Vec<PgLTree>" => Some(visitor.whole::<Vec<PgLTree>>(alloc, value)),
+        "Vec<Mood>" => Some(visitor.shown::<Vec<PgEnum<Mood>>>(alloc, value)),
         "Vec<Page>" => Some(visitor.whole::<Vec<PgComposite<Page>>>(alloc, value)),
         "Vec<SizeRange>" => Some(visitor.whole::<Vec<SizeRange>>(alloc, value)),
         _ => None,

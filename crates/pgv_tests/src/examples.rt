@@ -445,7 +445,7 @@ fn document_shown(alloc: Global, parameter: PgType) -> Result<String, CodecError
 fn shipment(alloc: Global) -> Result<PgComposite<Shipment>, CodecError> {
     let path = PgLTree::from_str(alloc, "a.b")?;
     let page = PgComposite(Page { id: 1, path });
-    Ok(PgComposite(Shipment { note: None, page }))
+    Ok(PgComposite(Shipment { page, note: None }))
 }
 
 /// What is sent of that shipment, in hex, its holes open.
@@ -453,10 +453,10 @@ fn shipment_sent(alloc: Global) -> Result<String, CodecError> {
     sent(alloc, shipment(alloc)?)
 }
 
-/// The text `(,"(1,a.b)")` read as a shipment.
+/// The text `("(1,a.b)",)` read as a shipment.
 fn shipment_read(alloc: Global) -> Result<String, CodecError> {
-    let PgComposite(read) = of_text::<PgComposite<Shipment>>(alloc, b"(,\"(1,a.b)\")")?;
-    Ok(format!(in alloc; "{:?} {} {}", read.note, read.page.0.id, read.page.0.path)?)
+    let PgComposite(read) = of_text::<PgComposite<Shipment>>(alloc, b"(\"(1,a.b)\",)")?;
+    Ok(format!(in alloc; "{} {} {:?}", read.page.0.id, read.page.0.path, read.note)?)
 }
 
 /// What is sent of the range from one number of bits to another.
@@ -491,8 +491,8 @@ fn types_of_ones_own(rt: HostRuntime) -> Result<(), CodecError> {
     let expected = [
         "00000003207b7d {}",
         "00000003017b7d {}",
-        "000000300000000200000019ffffffff000000000000001c00000002000000170000000400000001000000000000000401612e62",
-        "None 1 a.b",
+        "0000003000000002000000000000001c00000002000000170000000400000001000000000000000401612e6200000019ffffffff",
+        "1 a.b None",
         "0000001902000000080000000000000001000000080000000000000002",
         "Bounds { start: Included(PgPlain(Float8(1))), end: Excluded(PgPlain(Float8(2))) } in floatrange[]",
     ];
