@@ -149,7 +149,6 @@ impl PgCopyPieces {
     /// [`PgCopyNext::More`] where the bytes end before the row does, and [`PgCopyNext::End`] at the end of the stream
     /// and from then on. A header or a row that is refused is refused as by [`PgCopyReader`](crate::PgCopyReader), and
     /// the reader is as it was.
-    #[tactic(auto, using(crate::proofs::Ends::advanced, crate::proofs::Ends::held_row, crate::proofs::Ends::whole_end))]
     pub fn advance(&mut self) -> Result<PgCopyNext, CodecError>
         ensures found { Advances self.old result self.new }
         // Each row takes bytes, so a loop over the rows ends.

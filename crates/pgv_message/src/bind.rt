@@ -1,7 +1,11 @@
 //! Bind: a statement and its parameters become a portal.
 
+ghost use Rattle.std.specs.Prelude.{[], ◌∷◌, codes, flat_map};
+ghost use Rattle.std.specs.Int.{to_be_bytes, w16};
+ghost use Rattle.pgv_copy.specs.CopyPieces.{joined};
 ghost use Rattle.pgv_message.specs.Messages.{bind};
-ghost use Rattle.pgv_message.specs.MessageWriting.{Sends};
+ghost use Rattle.pgv_message.specs.MessageWriting.{Sends, whole_message};
+ghost use Rattle.pgv_message.specs.Pieces.{format_bytes, piece_bytes};
 
 use crate::error::MessageError;
 use crate::pieces::{Piece, count_piece, push_message, text_piece};
@@ -35,6 +39,24 @@ pub fn write_bind<'a>(
     let parameters = count_piece(arguments.len())?;
     let formats = count_piece(results.len())?;
     let frames = arguments.buffer().as_slice();
+    push_bind(out, portal, statement, parameters, frames, formats, results)
+}
+
+/// Appends Bind of a portal, a statement, a number of parameters, their frames, a number of formats and these.
+fn push_bind<'a>(
+    out: &mut Vec<u8>,
+    portal: Piece<'a>,
+    statement: Piece<'a>,
+    parameters: Piece<'a>,
+    frames: &'a [u8],
+    formats: Piece<'a>,
+    results: &'a [PgValueFormat],
+) -> Result<(), MessageError>
+    ensures { Sends (whole_message (codes "B") (joined (piece_bytes portal.entry
+        ∷ piece_bytes statement.entry ∷ to_be_bytes w16 1 ∷ to_be_bytes w16 1 ∷ piece_bytes parameters.entry
+        ∷ frames.now ∷ piece_bytes formats.entry ∷ flat_map format_bytes results.now ∷ [])))
+        out.old.items out.new.items result }
+{
     push_message(
         out,
         b"B",

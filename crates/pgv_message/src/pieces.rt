@@ -1,7 +1,7 @@
 //! Messages as pieces that are appended one after another.
 
 ghost use Rattle.std.specs.Prelude.{◌≡◌, ◌<◌, ◌≤◌, ◌++◌, [], ◌∷◌, length, flat_map, is_ok, MatchResult};
-ghost use Rattle.std.specs.Int.{to_be_bytes};
+ghost use Rattle.std.specs.Int.{to_be_bytes, w32};
 ghost use Rattle.pgv_message.specs.MessageWriting.{GivesPart, Sends, appended, ended_text, count_of, whole_message, max_body};
 ghost use Rattle.pgv_message.specs.Pieces.{piece_bytes, joined_pieces, format_bytes, format_codes, oid_bytes};
 ghost use Rattle.pgv_message.specs.declared.error.MessageError.TheVariants.{TooLong};
@@ -168,6 +168,25 @@ fn push_pieces(out: &mut Vec<u8>, pieces: &[Piece<'_>]) -> Result<(), AllocError
     Ok(())
 }
 
+/// Appends a tag, a length and pieces. A refused call leaves all as it was.
+fn push_parts(
+    out: &mut Vec<u8>,
+    tag: &[u8],
+    length: u32,
+    pieces: &[Piece<'_>],
+) -> Result<(), AllocError>
+    ensures { out.new.items ≡ appended (is_ok result) out.old.items
+        (tag.now ++ (to_be_bytes w32 length ++ joined_pieces pieces.now)) }
+{
+    let mark = out.len();
+    out.extend_from_slice(tag)?;
+    if push_piece(out, &Piece::Number(length)).is_err() || push_pieces(out, pieces).is_err() {
+        out.truncate(mark);
+        return Err(AllocError);
+    }
+    Ok(())
+}
+
 /// Appends the message under a tag whose body is these pieces; room for all of it is made first. A refused call leaves
 /// all as it was.
 #[tactic(auto, unfolding(crate::specs::MessageWriting::whole_message))]
@@ -177,13 +196,6 @@ pub fn push_message(out: &mut Vec<u8>, tag: &[u8], pieces: &[Piece<'_>]) -> Resu
 {
     let length = body_size(pieces)? + 4;
     out.reserve(length + 1)?;
-    let mark = out.len();
-    out.extend_from_slice(tag)?;
-    if push_piece(out, &Piece::Number(length as u32)).is_err()
-        || push_pieces(out, pieces).is_err()
-    {
-        out.truncate(mark);
-        return Err(MessageError::Memory);
-    }
+    push_parts(out, tag, length as u32, pieces)?;
     Ok(())
 }

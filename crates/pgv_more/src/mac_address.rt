@@ -1,7 +1,7 @@
 //! MAC addresses (PostgreSQL, "Network Address Types", macaddr): six bytes.
 
 ghost use Rattle.std.specs.Prelude.{◌≡◌, [], ◌∷◌, option_map};
-ghost use Rattle.pgv_more.specs.MacAddressText.{mac_value, next_pair, pair_value, pairs_after};
+ghost use Rattle.pgv_more.specs.MacAddressText.{mac_value, next_pair, pair_before, pair_value, pairs_after, with_rest};
 
 mod codec;
 
@@ -48,14 +48,22 @@ impl MacAddress {
         let [high, low, rest @ ..] = text.as_bytes() else {
             return None;
         };
-        let separator = *rest.first()?;
-        if separator != b':' && separator != b'-' {
-            return None;
+        match rest {
+            [separator @ (b':' | b'-'), ..] => six_pairs(*separator, *high, *low, rest),
+            _ => None,
         }
-        let first = byte_of(*high, *low)?;
-        let [second, third, fourth, fifth, sixth] = five_after(separator, rest)?;
-        Some(MacAddress::new([first, second, third, fourth, fifth, sixth]))
     }
+}
+
+/// The address of the digits of a first pair and of five pairs after it, each after the separator.
+#[inline(always)]
+fn six_pairs(separator: u8, high: u8, low: u8, others: &[u8]) -> Option<MacAddress>
+    ensures { result ≡ pair_before (with_rest (pair_value high low) others.now)
+        (pairs_after separator 5) }
+{
+    let first = byte_of(high, low)?;
+    let [second, third, fourth, fifth, sixth] = five_after(separator, others)?;
+    Some(MacAddress::new([first, second, third, fourth, fifth, sixth]))
 }
 
 /// The bytes of five pairs, each after the separator, where nothing comes after them.

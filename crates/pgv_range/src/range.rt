@@ -1,8 +1,10 @@
 //! A range by its bounds.
 
 ghost use Rattle.std.specs.Prelude.{◌≡◌, Some, false};
+ghost use Rattle.std.specs.Fmt.{DisplaysOnOk};
 ghost use Rattle.std.specs.Option.{option_map};
 ghost use Rattle.std.specs.Range.Bound.{bound_map};
+ghost use Rattle.pgv_range.specs.RangeShown.{end_text, start_text};
 ghost use Rattle.pgv_range.specs.declared.range.PgRange.TheVariants.{Bounds, Empty};
 
 use std::fmt;
@@ -186,18 +188,38 @@ impl<T: fmt::Display> fmt::Display for PgRange<T> {
         match self {
             PgRange::Empty => f.write_str("empty"),
             PgRange::Bounds { start, end } => {
-                match start {
-                    Bound::Unbounded => f.write_str("(")?,
-                    Bound::Excluded(value) => write!(f, "({value}")?,
-                    Bound::Included(value) => write!(f, "[{value}")?,
-                }
+                write_start(start, f)?;
                 f.write_str(",")?;
-                match end {
-                    Bound::Unbounded => f.write_str(")"),
-                    Bound::Excluded(value) => write!(f, "{value})"),
-                    Bound::Included(value) => write!(f, "{value}]"),
-                }
+                write_end(end, f)
             }
         }
+    }
+}
+
+/// The bracket of a lower bound, and its value.
+fn write_start<T: fmt::Display, W: fmt::Write>(
+    start: &Bound<T>,
+    f: &mut fmt::Formatter<W>,
+) -> fmt::Result
+    ensures { DisplaysOnOk W.write_str_gives f.old result (start_text T.output start.now) f.new }
+{
+    match start {
+        Bound::Unbounded => f.write_str("("),
+        Bound::Excluded(value) => write!(f, "({value}"),
+        Bound::Included(value) => write!(f, "[{value}"),
+    }
+}
+
+/// The value of an upper bound, and its bracket.
+fn write_end<T: fmt::Display, W: fmt::Write>(
+    end: &Bound<T>,
+    f: &mut fmt::Formatter<W>,
+) -> fmt::Result
+    ensures { DisplaysOnOk W.write_str_gives f.old result (end_text T.output end.now) f.new }
+{
+    match end {
+        Bound::Unbounded => f.write_str(")"),
+        Bound::Excluded(value) => write!(f, "{value})"),
+        Bound::Included(value) => write!(f, "{value}]"),
     }
 }

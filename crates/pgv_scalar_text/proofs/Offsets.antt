@@ -1,6 +1,12 @@
 -- Offsets from UTC.
-use Rattle.std.proofs.Common.{◌≡◌, ℕ, ◌<◌, ◌==◌, Bool, true, false, ℤ, pos, neg_ℤ, List, [], ◌∷◌, ◌++◌, Option, Some, None, option_map, is_some, refl, sym, ap, ◌∙◌, subst, arith, inl, inr, eqb-true, cond}
-use Rattle.std.proofs.lemmas.Int.{ints}
+use mir.Syntax.{w32}
+use mir.Val.{SFits, of_z, to_z}
+use Rattle.std.proofs.Common.{◌≡◌, ℕ, ◌<◌, ◌≤◌, ◌-◌, ◌-ℤ◌, negsuc, length, get_or, Result, Ok, Err, ◌==◌, Bool, true, false, ℤ, pos, neg_ℤ, List, [], ◌∷◌, ◌++◌, Option, Some, None, option_map, is_some, refl, sym, ap, ◌∙◌, subst, arith, inl, inr, eqb-true, cond}
+use Rattle.std.specs.List.{slice_range}
+use Rattle.std.specs.Result.{IfOk, IsOk, result_ok}
+use Rattle.std.proofs.lemmas.Int.{ints, to_z_pos, to_z-of_z}
+use Rattle.std.proofs.lemmas.List.{take_all}
+use Rattle.jiff_core.specs.Calendar.{IsBetween}
 use Rattle.std.proofs.lemmas.Option.{none-some, same_Some}
 use Rattle.std.proofs.lemmas.Bool.{false≢true, and_parts}
 use Rattle.std.proofs.NetLemmas.Options.{and_then_some, map_some}
@@ -132,3 +138,63 @@ ignored_is (sign ∷ rest) e =
     let (test, some) = and_parts (sign == 43) (is_some (hours_value rest)) e in
     let (seconds, is) = hours_there rest (hours_value rest) refl some in
     inr (rest, seconds, ap (λ c. c ∷ rest) (eqb-true sign 43 test), is)
+
+-- ---- what is made of a sign and what is after it
+
+offset_plus : (text : List ℕ) → 1 ≤ length text → get_or text 0 0 ≡ 43 → offset_value text ≡ option_map pos (hours_value (slice_range text 1 (length text)))
+offset_plus [] le e = absurd (omega (arith, le))
+offset_plus (x ∷ xs) le e =
+    ap (λ y. offset_value (y ∷ xs)) e ∙ ap (λ t. option_map pos (hours_value t)) (sym (take_all (length (x ∷ xs) - 1) xs (omega arith)))
+
+offset_minus : (text : List ℕ) → 1 ≤ length text → get_or text 0 0 ≡ 45 → offset_value text ≡ option_map (λ n. neg_ℤ (pos n)) (hours_value (slice_range text 1 (length text)))
+offset_minus [] le e = absurd (omega (arith, le))
+offset_minus (x ∷ xs) le e =
+    ap (λ y. offset_value (y ∷ xs)) e ∙ ap (λ t. option_map (λ n. neg_ℤ (pos n)) (hours_value t)) (sym (take_all (length (x ∷ xs) - 1) xs (omega arith)))
+
+pub east_fits : (n : ℕ) → n < 86_400 → SFits w32 (pos n)
+east_fits n lt = omega (arith, ints)
+
+pub west_fits : (n : ℕ) → n < 86_400 → SFits w32 (pos 0 -ℤ to_z w32 n)
+west_fits n lt = rw (to_z_pos w32 n (omega arith)) (omega (arith, ints))
+
+-- the number that is passed is the one that is meant
+east_is : (n : ℕ) → n < 86_400 → to_z w32 n ≡ pos n
+east_is n lt = to_z_pos w32 n (omega arith)
+
+west_is : (n : ℕ) → n < 86_400 → to_z w32 (of_z w32 (pos 0 -ℤ to_z w32 n)) ≡ neg_ℤ (pos n)
+west_is n lt = to_z-of_z w32 (pos 0 -ℤ to_z w32 n) (west_fits n lt) ∙ rw (to_z_pos w32 n (omega arith)) (omega (arith, ints))
+
+-- an offset of so many seconds
+made : {E : Type 0} (r : Result Offset E) (found : Option Offset) (z y : ℤ) → z ≡ y → IsBetween (negsuc 93_598) (pos 93_599) y → (IsBetween (negsuc 93_598) (pos 93_599) z → IsOk r) →
+    IfOk r (λ o. o.seconds ≡ z) → found ≡ result_ok r → option_map (λ (o : Offset). o.seconds) found ≡ Some y
+made (Ok o) found z y same within succeeds value is = ap (option_map (λ (o : Offset). o.seconds)) is ∙ ap Some (value ∙ same)
+made (Err e) found z y same within succeeds value is = absurd (false≢true (succeeds (rw same within)))
+
+pub plus_made : {E : Type 0} (text : List ℕ) (n : ℕ) (r : Result Offset E) (found : Option Offset) → 1 ≤ length text → get_or text 0 0 ≡ 43 →
+    Some n ≡ hours_value (slice_range text 1 (length text)) → n < 86_400 →
+    (IsBetween (negsuc 93_598) (pos 93_599) (to_z w32 n) → IsOk r) → IfOk r (λ o. o.seconds ≡ to_z w32 n) → found ≡ result_ok r → option_map (λ (o : Offset). o.seconds) found ≡ offset_value text
+plus_made text n r found le sign hours lt succeeds value is =
+    made r found (to_z w32 n) (pos n) (east_is n lt) (omega (arith, ints), omega (arith, ints)) succeeds value is ∙ (ap (option_map pos) hours ∙ sym (offset_plus text le sign))
+
+pub minus_made : {E : Type 0} (text : List ℕ) (n : ℕ) (r : Result Offset E) (found : Option Offset) → 1 ≤ length text → get_or text 0 0 ≡ 45 →
+    Some n ≡ hours_value (slice_range text 1 (length text)) → n < 86_400 →
+    (IsBetween (negsuc 93_598) (pos 93_599) (to_z w32 (of_z w32 (pos 0 -ℤ to_z w32 n))) → IsOk r) → IfOk r (λ o. o.seconds ≡ to_z w32 (of_z w32 (pos 0 -ℤ to_z w32 n))) → found ≡ result_ok r →
+    option_map (λ (o : Offset). o.seconds) found ≡ offset_value text
+minus_made text n r found le sign hours lt succeeds value is =
+    made r found (to_z w32 (of_z w32 (pos 0 -ℤ to_z w32 n))) (neg_ℤ (pos n)) (west_is n lt) (omega (arith, ints), omega (arith, ints)) succeeds value is
+    ∙ (ap (option_map (λ n. neg_ℤ (pos n))) hours ∙ sym (offset_minus text le sign))
+
+pub plus_none : (text : List ℕ) → 1 ≤ length text → get_or text 0 0 ≡ 43 → None ≡ hours_value (slice_range text 1 (length text)) → None ≡ offset_value text
+plus_none text le sign hours = ap (option_map pos) hours ∙ sym (offset_plus text le sign)
+
+pub minus_none : (text : List ℕ) → 1 ≤ length text → get_or text 0 0 ≡ 45 → None ≡ hours_value (slice_range text 1 (length text)) → None ≡ offset_value text
+minus_none text le sign hours = ap (option_map (λ n. neg_ℤ (pos n))) hours ∙ sym (offset_minus text le sign)
+
+pub ignored_nothing : (text : List ℕ) → length text < 1 → true ≡ is_ignored text
+ignored_nothing [] lt = refl
+ignored_nothing (x ∷ xs) lt = absurd (omega (arith, lt))
+
+pub ignored_plus : (text : List ℕ) → 1 ≤ length text → get_or text 0 0 ≡ 43 → is_some (hours_value (slice_range text 1 (length text))) ≡ is_ignored text
+ignored_plus [] le e = absurd (omega (arith, le))
+ignored_plus (x ∷ xs) le e =
+    ap (λ t. is_some (hours_value t)) (take_all (length (x ∷ xs) - 1) xs (omega arith)) ∙ ap (λ y. is_ignored (y ∷ xs)) (sym e)

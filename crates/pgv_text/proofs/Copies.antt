@@ -1,8 +1,8 @@
 -- Which parts stand in their text as they are.
-use Rattle.std.proofs.Common.{◌≡◌, ◌<◌, ◌⊎◌, inl, inr, ℕ, zero, suc, ◌+◌, Bool, true, false, List, [], ◌∷◌, ◌++◌, length, drop, Option, Some, None, ap, sym, ◌∙◌, refl, subst, arith}
+use Rattle.std.proofs.Common.{◌≡◌, ◌<◌, ◌≤◌, ◌⊎◌, inl, inr, ℕ, zero, suc, ◌+◌, Bool, true, false, List, [], ◌∷◌, ◌++◌, length, drop, Option, Some, None, ap, sym, ◌∙◌, refl, subst, arith}
 use Rattle.std.specs.List.{slice_index}
 use Rattle.std.proofs.lemmas.Bool.{false≢true, false_from_ne_true}
-use Rattle.std.proofs.lemmas.List.{length-append}
+use Rattle.std.proofs.lemmas.List.{drop_all, length-append}
 use Rattle.std.proofs.lemmas.Option.{same_Some}
 use Rattle.pgv_text.specs.declared.scanner.TextForm.{TextForm}
 use Rattle.pgv_text.specs.declared.scanner.Class.{Class}
@@ -16,24 +16,31 @@ use Rattle.pgv_text.specs.Forms.{form_of}
 use Rattle.pgv_text.specs.Scan.{class, cell, outside_cell, quoted_cell, after_quote_cell, ends, stops}
 use Rattle.pgv_text.specs.Copies.{as_it_is, as_it_is_by, bare, bare_by, copies_after, copies_by, in_quotes, in_quotes_by, part_ends, stop_at, stop_by}
 
--- ---- usual bytes, in one step
+-- ---- bytes that are kept, in one step
 
-module _ (form : TextForm) (p q : Place) (n : ℕ) (keeps : cell (form_of form) p Other ≡ Keep q) where
-  pub usual_stop : (text : List ℕ) (i : ℕ) → i < length text → class (form_of form) (slice_index text i) ≡ Other →
+module _ (form : TextForm) (p q : Place) (n : ℕ) where
+  pub kept_stop : (text : List ℕ) (i : ℕ) → i < length text → cell (form_of form) p (class (form_of form) (slice_index text i)) ≡ Keep q →
       ((rest : List ℕ) → rest ≡ drop (i + 1) text → stop_at (form_of form) q rest ≡ stop_at (form_of form) q (drop n rest)) →
       stop_at (form_of form) p (drop i text) ≡ stop_at (form_of form) q (drop (i + (1 + n)) text)
-  usual_stop [] i lt other run = absurd (omega (arith, lt))
-  usual_stop (b ∷ bs) zero lt other run =
+  kept_stop [] i lt keeps run = absurd (omega (arith, lt))
+  kept_stop (b ∷ bs) zero lt keeps run =
       let all : suc n ≡ 0 + (1 + n) = omega arith in
-      ap (stop_by p (b ∷ bs) (λ r. stop_at (form_of form) r bs)) (ap (cell (form_of form) p) other ∙ keeps) ∙ run bs refl
+      ap (stop_by p (b ∷ bs) (λ r. stop_at (form_of form) r bs)) keeps ∙ run bs refl
       ∙ ap (λ (m : ℕ). stop_at (form_of form) q (drop m (b ∷ bs))) all
-  usual_stop (b ∷ bs) (suc i) lt other run =
+  kept_stop (b ∷ bs) (suc i) lt keeps run =
       let one : suc (i + 1) ≡ suc i + 1 = omega arith in
       let all : suc (i + (1 + n)) ≡ suc i + (1 + n) = omega arith in
-      usual_stop bs i (omega (arith, lt)) other (λ rest e. run rest (e ∙ ap (λ (m : ℕ). drop m (b ∷ bs)) one))
+      kept_stop bs i (omega (arith, lt)) keeps (λ rest e. run rest (e ∙ ap (λ (m : ℕ). drop m (b ∷ bs)) one))
       ∙ ap (λ (m : ℕ). stop_at (form_of form) q (drop m (b ∷ bs))) all
 
+pub kept_stop_one : (form : TextForm) (p q : Place) (text : List ℕ) (i : ℕ) → i < length text → cell (form_of form) p (class (form_of form) (slice_index text i)) ≡ Keep q →
+    stop_at (form_of form) p (drop i text) ≡ stop_at (form_of form) q (drop (i + 1) text)
+kept_stop_one form p q text i lt keeps = kept_stop form p q 0 text i lt keeps (λ rest e. refl)
+
 -- ---- the byte that isn't kept
+
+pub ends_unstopped : (form : TextForm) (p q : Place) (text : List ℕ) (i : ℕ) → length text ≤ i → stop_at (form_of form) p text ≡ stop_at (form_of form) q (drop i text) → stop_at (form_of form) p text ≡ None
+ends_unstopped form p q text i le same = same ∙ ap (stop_at (form_of form) q) (drop_all i text le)
 
 module _ (form : Form) where
   -- it stands where it is found

@@ -18,8 +18,6 @@ use Rattle.pgv_text.proofs.Nothing.{value_is}
 use Rattle.pgv_text.proofs.Sound.{Valid, after_part, part_end, sound}
 use Rattle.pgv_text.proofs.SpelledTexts.{parts_read}
 use Rattle.pgv_text.specs.declared.scanner.TextForm.TheVariants.{Array, Record}
-use Rattle.pgv_text.specs.ArrayText.{array_form, IsArrayText}
-use Rattle.pgv_text.specs.RecordText.{record_form, IsRecordText}
 use Rattle.pgv_text.specs.NestLaws.{ArrayIsItsValues, NestIsComputed, OneNest, RecordIsItsValues}
 
 pub as_many : {X Y : Type 0} (R : X → Y → Type 0) (xs : List X) (ys : List Y) → Pairwise R xs ys → length ys ≡ length xs

@@ -1,8 +1,9 @@
 -- What comes next in a text: the part in front, and of an array the elements.
-use Rattle.std.proofs.Common.{◌≡◌, ◌<◌, ◌==◌, ℕ, Bool, true, false, cond, List, [], ◌∷◌, length, drop, Option, Some, None, ap, sym, ◌∙◌, refl, append-nil, arith}
+use Rattle.std.proofs.Common.{◌≡◌, ◌⊎◌, inl, inr, ◌<◌, ◌==◌, ℕ, ◌-◌, Bool, true, false, cond, not, List, [], ◌∷◌, length, drop, Option, Some, None, ap, sym, ◌∙◌, refl, append-nil, arith}
 use Rattle.std.specs.Option.{option_map, option_and_then}
 use Rattle.std.specs.Str.{IsUtf8}
 use Rattle.std.proofs.lemmas.Bool.{eqb-true, false≢true}
+use Rattle.std.proofs.lemmas.List.{nil_from_length}
 use Rattle.pgv_text.specs.declared.scanner.TextForm.{TextForm}
 use Rattle.pgv_text.specs.declared.scanner.TextForm.TheVariants.{Array}
 use Rattle.pgv_text.specs.declared.scanner.Place.TheVariants.{Start}
@@ -10,15 +11,17 @@ use Rattle.pgv_text.specs.declared.scanner.Cell.TheVariants.{End, Keep, Part as 
 use Rattle.pgv_text.specs.declared.scanner.Cell.{Cell}
 use Rattle.pgv_text.specs.declared.scanner.Stop.{Stop}
 use Rattle.pgv_text.specs.declared.parts.Part.{Part}
+use Rattle.pgv_text.specs.declared.parts.Part.TheVariants.{Nothing, Plain, Unquoted}
 use Rattle.pgv_text.specs.ArrayText.{array_form}
-use Rattle.pgv_text.specs.Copies.{copies_after, copies_by, copies_from}
+use Rattle.pgv_text.specs.Copies.{as_it_is, copies_after, copies_by, copies_from, first_copied}
 use Rattle.pgv_text.specs.Forms.{form_of}
-use Rattle.pgv_text.specs.PartFound.{IsPartInFront, halts, part_value}
+use Rattle.pgv_text.specs.PartFound.{IsPartInFront, IsRun, IsUnquoted, halts, part_value}
 use Rattle.pgv_text.specs.PartsLeftView.{or_none, values_left}
 use Rattle.pgv_text.specs.NestPieces.{Form, Nest, any}
 use Rattle.pgv_text.specs.Values.{array_values}
+use Rattle.pgv_text.proofs.Nothing.{copied_is_present}
 use Rattle.pgv_text.proofs.ScannedBytes.{nest_bytes}
-use Rattle.pgv_text.specs.Scan.{Rest, at_end, closes_here, values_counted, grown, nest_between, nest_read, next, read, read_by, value_here, values_from}
+use Rattle.pgv_text.specs.Scan.{Rest, at_end, closes_here, values_counted, grown, nest_between, nest_read, next, read, read_by, stands, value_here, values_from}
 
 -- after an opening bracket, where the closing one doesn't follow at once
 open_values : (b : ℕ) (bs : List ℕ) (r : Option Rest) (closes : Bool) → closes ≡ false →
@@ -97,11 +100,77 @@ copies_taken form (b ∷ bs) rest (Pass p) l h e = absurd (false≢true h)
 copies_taken form (b ∷ bs) rest _ l h e = sym e
 
 -- the part in front is the first of the values that are left, where there are any
+pub unquoted_taken : (form : TextForm) (text part : List ℕ) (s : Stop) → IsUnquoted form text part s → (values_left form text ≡ [] → ⊥) →
+    (values_left form text ≡ value_here (form_of form) text part ∷ values_left form s.rest.now) × (copies_from (form_of form) s.rest.now ≡ drop 1 (copies_from (form_of form) text))
+unquoted_taken form text part s found some =
+    let end : values_left form text ≡ taken form text part s.rest.now s.byte (read_by (form_of form) s.byte s.rest.now (λ q. read (form_of form) q s.rest.now) s.cell) =
+    ap (λ r. or_none (option_map (values_from (form_of form) text) r)) found.end in (
+      end ∙ by_cell form text part s.rest.now s.byte s.cell found.halts_there (λ none. some (end ∙ none)),
+      copies_taken (form_of form) text s.rest.now s.cell found.shorter found.halts_there found.copies,
+    )
+
 pub part_taken : (form : TextForm) (text out : List ℕ) (part : Part) (s : Stop) → IsPartInFront form text part out s → (values_left form text ≡ [] → ⊥) →
     (values_left form text ≡ part_value part out ∷ values_left form s.rest.now) × (copies_from (form_of form) s.rest.now ≡ drop 1 (copies_from (form_of form) text))
 part_taken form text out part s front some =
-    let end : values_left form text ≡ taken form text front.bytes s.rest.now s.byte (read_by (form_of form) s.byte s.rest.now (λ q. read (form_of form) q s.rest.now) s.cell) =
-    ap (λ r. or_none (option_map (values_from (form_of form) text) r)) front.found.end in (
-      end ∙ by_cell form text front.bytes s.rest.now s.byte s.cell front.found.halts_there (λ none. some (end ∙ none)) ∙ ap (λ v. v ∷ values_left form s.rest.now) (sym front.value),
-      copies_taken (form_of form) text s.rest.now s.cell front.found.shorter front.found.halts_there front.found.copies,
-    )
+    let first = unquoted_taken form text front.bytes s front.found some in
+    (first.0 ∙ ap (λ v. v ∷ values_left form s.rest.now) (sym front.value), first.1)
+
+-- whether values are left, by their number, and by what is read
+pub none_left : (form : TextForm) (text : List ℕ) (n : ℕ) → n ≡ length (values_left form text) → n ≡ 0 → values_left form text ≡ []
+none_left form text n counted none = nil_from_length (values_left form text) (sym counted ∙ none)
+
+pub some_left : (form : TextForm) (text : List ℕ) (n : ℕ) → n ≡ length (values_left form text) → (n ≡ 0 → ⊥) → values_left form text ≡ [] → ⊥
+some_left form text n counted some none = some (counted ∙ ap length none)
+
+pub unread_left : (form : TextForm) (text : List ℕ) → read (form_of form) Start text ≡ None → values_left form text ≡ []
+unread_left form text none = ap (λ r. or_none (option_map (values_from (form_of form) text) r)) none
+
+-- one fewer is left after a part was taken
+pub fewer_left : (was now : List (Option (List ℕ))) (v : Option (List ℕ)) (n : ℕ) → n ≡ length was → was ≡ v ∷ now → n - 1 ≡ length now
+fewer_left was now v n counted first = let more = ap length first in omega (arith, counted, more)
+
+-- the value of a part whose bytes were put into a text, which is cleared where the part is null or absent
+pub value_put : (nothing : Bool) (bytes text : List ℕ) → (nothing ≡ false → text ≡ bytes) → cond nothing None (Some bytes) ≡ cond (not nothing) (Some text) None
+value_put true bytes text kept = refl
+value_put false bytes text kept = ap Some (sym (kept refl))
+
+-- a part that is one run of the text, alone or in quotes
+module _ (form : TextForm) (text out : List ℕ) (s : Stop) where
+  ends_part : (k : Cell) → (k ≡ Ends) ⊎ (k ≡ End) → (halts k ≡ true) × (copies_from (form_of form) s.rest.now ≡ copies_by (form_of form) s.rest.now (λ q. copies_after (form_of form) q s.rest.now) k)
+  ends_part k (inl e) = (ap halts e, ap (copies_by (form_of form) s.rest.now (λ q. copies_after (form_of form) q s.rest.now)) (sym e))
+  ends_part k (inr e) = (ap halts e, ap (copies_by (form_of form) s.rest.now (λ q. copies_after (form_of form) q s.rest.now)) (sym e))
+
+  abbrev pub part_of_run : Bool → Part
+  part_of_run nothing = cond nothing Nothing (Plain s.run)
+
+  run_value : (nothing : Bool) → part_value (part_of_run nothing) out ≡ cond nothing None (Some s.run.now)
+  run_value true = refl
+  run_value false = refl
+
+  run_in_text : (nothing : Bool) → part_of_run nothing ≡ Unquoted → ⊥
+  run_in_text true e = cc
+  run_in_text false e = cc
+
+  pub run_in_front : (nothing : Bool) (part : Part) → IsRun form Start text s → nothing ≡ stands (form_of form) (form_of form).nothing text → part ≡ part_of_run nothing → IsPartInFront form text part out s
+  run_in_front nothing part run is of_run =
+      let ended = ends_part s.cell run.part.1 in
+      record {
+        bytes = s.run.now;
+        found = record { end = run.part.0; shorter = run.shorter; halts_there = ended.0; copies = run.copies ∙ ended.1 };
+        value = ap (λ p. part_value p out) of_run ∙ (run_value nothing ∙ ap (λ b. cond b None (Some s.run.now)) is);
+        copied = λ e. absurd (run_in_text nothing (sym of_run ∙ e));
+      }
+
+-- a part that was put into a text
+pub unquoted_in_front : (form : TextForm) (text out : List ℕ) (s : Stop) → IsUnquoted form text out s → as_it_is (form_of form) text ≡ false → IsPartInFront form text Unquoted out s
+unquoted_in_front form text out s found copied = record {
+  bytes = out;
+  found = found;
+  value = ap (λ b. cond b None (Some out)) (sym (copied_is_present form text copied));
+  copied = λ e. copied;
+}
+
+-- what is copied, where a part is left
+pub first_is_copied : (form : TextForm) (text : List ℕ) → as_it_is (form_of form) text ≡ false → (values_left form text ≡ [] → ⊥) → first_copied (copies_from (form_of form) text) ≡ true
+first_is_copied form [] copied some = absurd (some refl)
+first_is_copied form (b ∷ bs) copied some = ap not copied

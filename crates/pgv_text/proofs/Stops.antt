@@ -8,12 +8,12 @@ use Rattle.pgv_text.specs.declared.scanner.Class.TheVariants.{Other}
 use Rattle.pgv_text.specs.declared.scanner.Place.{Place}
 use Rattle.pgv_text.specs.declared.scanner.Place.TheVariants.{Outside, Quoted, AfterQuote, QuotedBackslash}
 use Rattle.pgv_text.specs.declared.scanner.Cell.{Cell}
-use Rattle.pgv_text.specs.declared.scanner.Cell.TheVariants.{Keep, End, Part, Pass}
+use Rattle.pgv_text.specs.declared.scanner.Cell.TheVariants.{Keep, End, Part, Pass, Refuse}
 use Rattle.pgv_text.specs.NestPieces.{Form}
 use Rattle.pgv_text.specs.Forms.{form_of}
-use Rattle.pgv_text.specs.Scan.{Rest, class, cell, after_quote_cell, grown, kept, read, read_by}
+use Rattle.pgv_text.specs.Scan.{Rest, class, cell, after_quote_cell, grown, kept, read, read_by, stops}
 use Rattle.std.specs.List.{slice_index}
-use Rattle.std.proofs.lemmas.List.{length-append}
+use Rattle.std.proofs.lemmas.List.{drop_all, length-append}
 use Rattle.std.specs.Option.{MatchOption, option_map}
 use Rattle.pgv_text.specs.declared.scanner.Stop.{Stop}
 use Rattle.pgv_text.specs.Copies.{copies_after, copies_by, copies_from}
@@ -58,36 +58,70 @@ stop_is_ascii form p b k e n =
       | inr h ↦ absurd (n (onward p) (e ∙ ap (cell (form_of form) p) (high_class form b h) ∙ other_cell (form_of form) p))
     ]
 
--- ---- usual bytes in one step
+-- ---- bytes that are kept, in one step
 
 grown_more : (b : ℕ) (bs : List ℕ) (r : Option Rest) → option_map (kept b) (grown bs r) ≡ grown (b ∷ bs) r
 grown_more b bs None = refl
 grown_more b bs (Some r) = refl
 
-module _ (form : TextForm) (p q : Place) (n : ℕ) (keeps : cell (form_of form) p Other ≡ Keep q) where
+module _ (form : TextForm) (p q : Place) (n : ℕ) where
   -- what is read after so many bytes
   abbrev read_after : List ℕ → ℕ → Option Rest
   read_after text m = grown (take m text) (read (form_of form) q (drop m text))
 
-  -- a usual byte, and the n that are after it
-  pub usual_run : (text : List ℕ) (i : ℕ) → i < length text → class (form_of form) (slice_index text i) ≡ Other →
+  -- a byte that is kept, and the n that are after it
+  pub kept_run : (text : List ℕ) (i : ℕ) → i < length text → cell (form_of form) p (class (form_of form) (slice_index text i)) ≡ Keep q →
       ((rest : List ℕ) → rest ≡ drop (i + 1) text → read (form_of form) q rest ≡ read_after rest n) →
       grown (take i text) (read (form_of form) p (drop i text)) ≡ read_after text (i + (1 + n))
-  usual_run [] i lt other run = absurd (omega (arith, lt))
-  usual_run (b ∷ bs) zero lt other run =
+  kept_run [] i lt keeps run = absurd (omega (arith, lt))
+  kept_run (b ∷ bs) zero lt keeps run =
       let all : suc n ≡ 0 + (1 + n) = omega arith in
       grown_none (read (form_of form) p (b ∷ bs))
-      ∙ ap (λ (k : Cell). read_by (form_of form) b bs (λ r. read (form_of form) r bs) k) (ap (cell (form_of form) p) other ∙ keeps)
+      ∙ ap (λ (k : Cell). read_by (form_of form) b bs (λ r. read (form_of form) r bs) k) keeps
       ∙ ap (option_map (kept b)) (run bs refl)
       ∙ grown_more b (take n bs) (read (form_of form) q (drop n bs))
       ∙ ap (read_after (b ∷ bs)) all
-  usual_run (b ∷ bs) (suc i) lt other run =
+  kept_run (b ∷ bs) (suc i) lt keeps run =
       let one : suc (i + 1) ≡ suc i + 1 = omega arith in
       let all : suc (i + (1 + n)) ≡ suc i + (1 + n) = omega arith in
       sym (grown_more b (take i bs) (read (form_of form) p (drop i bs)))
-      ∙ ap (option_map (kept b)) (usual_run bs i (omega (arith, lt)) other (λ rest e. run rest (e ∙ ap (λ (m : ℕ). drop m (b ∷ bs)) one)))
+      ∙ ap (option_map (kept b)) (kept_run bs i (omega (arith, lt)) keeps (λ rest e. run rest (e ∙ ap (λ (m : ℕ). drop m (b ∷ bs)) one)))
       ∙ grown_more b (take (i + (1 + n)) bs) (read (form_of form) q (drop (i + (1 + n)) bs))
       ∙ ap (read_after (b ∷ bs)) all
+
+-- one byte that is kept
+pub kept_one : (form : TextForm) (p q : Place) (text : List ℕ) (i : ℕ) → i < length text → cell (form_of form) p (class (form_of form) (slice_index text i)) ≡ Keep q →
+    grown (take i text) (read (form_of form) p (drop i text)) ≡ grown (take (i + 1) text) (read (form_of form) q (drop (i + 1) text))
+kept_one form p q text i lt keeps = kept_run form p q 0 text i lt keeps (λ rest e. sym (grown_none (read (form_of form) q rest)))
+
+-- ---- a byte that isn't kept, and the end
+
+pub split_at : (text rest : List ℕ) (i : ℕ) → i < length text → rest ≡ drop (i + 1) text → drop i text ≡ slice_index text i ∷ rest
+split_at [] rest i lt e = absurd (omega (arith, lt))
+split_at (b ∷ bs) rest zero lt e = ap (λ t. b ∷ t) (sym e)
+split_at (b ∷ bs) rest (suc i) lt e =
+    let one : suc i + 1 ≡ suc (i + 1) = omega arith in
+    split_at bs rest i (omega (arith, lt)) (e ∙ ap (λ (m : ℕ). drop m (b ∷ bs)) one)
+
+pub stops_at : (k : Cell) → ((q : Place) → k ≡ Keep q → ⊥) → stops k ≡ true
+stops_at (Keep q) n = absurd (n q refl)
+stops_at (Pass q) n = refl
+stops_at Part n = refl
+stops_at End n = refl
+stops_at Refuse n = refl
+
+-- what is read goes on there
+pub stop_onward : (form : TextForm) (p q : Place) (text before run bs rest : List ℕ) (b : ℕ) (k : Cell) →
+    read (form_of form) p text ≡ grown before (read (form_of form) q bs) → run ≡ before → bs ≡ b ∷ rest → k ≡ cell (form_of form) q (class (form_of form) b) →
+    read (form_of form) p text ≡ grown run (read_by (form_of form) b rest (λ r. read (form_of form) r rest) k)
+stop_onward form p q text before run bs rest b k same run_is split is =
+    same ∙ (ap (λ t. grown before (read (form_of form) q t)) split
+    ∙ (ap (λ m. grown before (read_by (form_of form) b rest (λ r. read (form_of form) r rest) m)) (sym is)
+    ∙ ap (λ t. grown t (read_by (form_of form) b rest (λ r. read (form_of form) r rest) k)) (sym run_is)))
+
+-- nothing is read of no more bytes
+pub ends_unread : (form : TextForm) (p q : Place) (text before : List ℕ) (i : ℕ) → length text ≤ i → read (form_of form) p text ≡ grown before (read (form_of form) q (drop i text)) → read (form_of form) p text ≡ None
+ends_unread form p q text before i le same = same ∙ ap (λ t. grown before (read (form_of form) q t)) (drop_all i text le)
 
 -- a byte that is passed over, with nothing before it
 pub passed : (form : Form) (p q : Place) (b : ℕ) (text before rest : List ℕ) (k : Cell) →

@@ -19,7 +19,6 @@ pub fn one_nest()
 
 /// `range_content` computes the empty range, or two bounds, from a text iff the grammar of ranges assigns this to the
 /// text.
-#[tactic(auto, using(crate::proofs::Contents::range_is))]
 pub fn range_is_computed()
     ensures { RangeIsComputed }
 {}

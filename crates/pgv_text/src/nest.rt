@@ -60,7 +60,6 @@ pub enum RangeText {
 
 /// The bounds of a range text, as `["a b",)`, and whether its brackets include them, or that the range is empty; `None`
 /// if it is not a range text.
-#[tactic(auto, using(crate::proofs::Contents::two_bounds_of))]
 pub fn range_parts(alloc: Global, text: &str) -> Result<Option<RangeText>, AllocError>
     // Memory is asked for only where there are bounds.
     ensures { MatchResult result

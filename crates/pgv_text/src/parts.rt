@@ -188,7 +188,6 @@ impl<'a> Part<'a> {
 
 /// The part in front, borrowed if its bytes are one run of the text, else put into the given text, and where it ends;
 /// `None` where it doesn't.
-#[tactic(auto, using(crate::proofs::Nothing::copied_is_present))]
 #[inline(always)]
 pub(crate) fn part_in_front<'a>(
     form: TextForm,
@@ -350,7 +349,6 @@ impl<'a> Parts<'a> {
     /// The next part: borrowed if its bytes are one run of the text, alone or in quotes, else put into the given text.
     /// `None` after the last part. If memory runs out, the parts stay as they were; a borrowed part asks for none. From
     /// the array `{a,"b c"}` come `a` and `b c`, both borrowed, and then `None`.
-    #[tactic(auto, using(crate::proofs::NextParts::part_taken))]
     #[inline(always)]
     pub fn next_borrowed(&mut self, text: &mut String) -> Result<Option<Part<'a>>, AllocError>
         // Only for a part that is copied memory is asked for.

@@ -1,6 +1,6 @@
 -- The tests of names tell what they are meant to.
 use Rattle.std.proofs.Common.{◌≡◌, ◌⊎◌, inl, inr, ℕ, ◌==◌, ◌&&◌, ◌||◌, Bool, true, false, not, cond, List, [], ◌∷◌, length, ◌<◌, arith, ap, ◌∙◌, sym, refl}
-use Rattle.std.proofs.lemmas.Bool.{false≢true}
+use Rattle.std.proofs.lemmas.Bool.{false≢true, false_from_ne_true}
 use Rattle.std.specs.Prelude.{Decides}
 use Rattle.std.specs.Char.{to_ascii_lowercase}
 use Rattle.std.specs.Str.{chars, bytes_eq}
@@ -108,3 +108,16 @@ agree_meant a b x y r e f g = Decides-at r (agree a b) (g ∙ ap (λ v. agree v 
 
 pub agree_same : (a b : List ℕ) → bytes_eq a b ≡ true → agree a b ≡ true
 agree_same a b q = ap (λ v. agree a v) (sym ((bytes_eq-Decides a b).0 q)) ∙ agree-refl a
+
+-- ---- where a name begins with U&, and where none does
+
+begins_either : (a b : List ℕ) → Decides (begins_unicode a || begins_unicode b) (BeginsUnicode a ⊎ BeginsUnicode b)
+begins_either a b = Decides-or (begins_unicode a) (begins_unicode b) (begins_tells a) (begins_tells b)
+
+pub agree_unicode : (a b : List ℕ) → BeginsUnicode a ⊎ BeginsUnicode b → agree a b ≡ bytes_eq a b
+agree_unicode a b u = ap (λ t. cond t (bytes_eq a b) (all_alike (significant a) (significant b))) ((begins_either a b).1 u)
+
+pub agree_plain : (a b : List ℕ) → (BeginsUnicode a → ⊥) → (BeginsUnicode b → ⊥) → agree a b ≡ all_alike (significant a) (significant b)
+agree_plain a b not_a not_b =
+    let neither : (begins_unicode a || begins_unicode b) ≡ false = false_from_ne_true (begins_unicode a || begins_unicode b) (λ e. elim ((begins_either a b).0 e) [ inl x ↦ not_a x | inr y ↦ not_b y ]) in
+    ap (λ t. cond t (bytes_eq a b) (all_alike (significant a) (significant b))) neither

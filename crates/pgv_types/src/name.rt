@@ -249,7 +249,6 @@ impl<'a> PgTypeName<'a> {
     }
 
     /// Whether two names agree, as `name_eq` decides for texts. It takes no memory.
-    #[tactic(auto, using(crate::proofs::Tells::agree_same))]
     pub fn agrees(&self, other: &PgTypeName<'_>) -> bool
         ensures { result ≡ agree (whole_name self.now) (whole_name other.now) }
     {

@@ -4,6 +4,7 @@ use Rattle.std.proofs.lemmas.Result.{err_from_is_err_and}
 use Rattle.pgv_codec.proofs.Lists.{both}
 use Rattle.pgv_more.proofs.HstoreWritten.{all_before, fails_before, more_before, none_before}
 use Rattle.pgv_more.specs.Hstore.{pair_of}
+use Rattle.pgv_codec.proofs.Extensions.{extends_further, on_err}
 use Rattle.pgv_more.proofs.hstore.codec.write_pairs.Goals as goal
 
 pub loop-key-init : goal.loop-key-init
@@ -33,3 +34,8 @@ pub returns-clause-exact : goal.returns-clause-exact
 returns-clause-exact c =
     let was = c.loop-key.invariant in
     (was.0, all_before (map pair_of c.args.hstore.now.entries) (map pair_of c.loop-key.key-iterator) was.0 (ap (map pair_of) c.in-None.ensures.steps.0) was.2, was.1)
+
+pub returns-in_err-write_pair-clause-appended : goal.returns-in_err-write_pair-clause-appended
+returns-in_err-write_pair-clause-appended c =
+    let was = c.loop-key.invariant in
+    on_err c.from_residual.result (extends_further c.args.out.now c.loop-key.out c.write_pair.new.out (_, was.1) c.in_err-write_pair.ensures.appended)

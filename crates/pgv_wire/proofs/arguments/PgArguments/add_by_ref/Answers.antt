@@ -1,15 +1,21 @@
-use Rattle.std.proofs.Common.{◌≡◌, ◌+◌, ◌-◌, ℕ, false, List, [], ◌∷◌, ◌++◌, length, arith, sym, subst, refl, ◌∙◌, ap, Result, Ok, Err, OnOk, is_err}
+use Rattle.std.proofs.Common.{◌≡◌, ◌+◌, ◌-◌, ℕ, true, false, List, [], ◌∷◌, ◌++◌, length, arith, sym, subst, refl, ◌∙◌, ap, inl, inr, Result, Ok, Err, OnOk, OnErr, is_err}
 use Rattle.std.proofs.lemmas.List.{length-map}
+use Rattle.std.proofs.lemmas.Result.{err_from_is_err_and}
 use Rattle.pgv_types.specs.Ty.{Ty}
 use Rattle.pgv_buf.specs.declared.Mark.{Mark}
 use Rattle.pgv_buf.specs.Tokens.{Cell, blank, slot_count}
 use Rattle.pgv_buf.specs.Marks.{mark_of}
-use Rattle.pgv_codec.specs.Encoding.{value_type}
-use Rattle.pgv_wire.specs.Arguments.{Argument, counts_in}
+use Rattle.pgv_value.specs.Outcome.{Fails}
+use Rattle.pgv_value.specs.declared.error.CodecError.{CodecError}
+use Rattle.pgv_value.specs.declared.error.CodecError.TheVariants.{Memory}
+use Rattle.pgv_codec.specs.Encoding.{Encoding, frame, value_type}
+use Rattle.pgv_codec.proofs.Extensions.{on_err}
+use Rattle.pgv_wire.specs.Arguments.{Argument, argument_frame, counts_in}
 use Rattle.pgv_wire.specs.Counts.{AreCounts}
-use Rattle.pgv_wire.specs.KeptView.{Stands}
+use Rattle.pgv_wire.specs.KeptView.{Stands, arguments_of}
 use Rattle.pgv_wire.proofs.Counts.{fewer_kept}
 use Rattle.pgv_wire.proofs.ArgumentLists.{stands, arguments_are, held, one_more, slot_count-append}
+use Rattle.pgv_wire.proofs.Eaches.{not_err}
 use Rattle.pgv_wire.proofs.Framed.{of_image}
 use Rattle.pgv_wire.proofs.arguments.PgArguments.add_by_ref.Goals as goal
 
@@ -72,3 +78,87 @@ returns-clause-exact g c =
           (subst (λ x. AreCounts (counts_in c.args.self.now ++ x ∷ []) c.note_slots.new.counts.items) (slots_are c.slots-2.result c.slots.result (blank a.0) more) noted)
           a.2),
     )
+
+-- ---- refused
+
+-- what a step says where it is an error
+where_err : {V E P : Type 0} (r : Result V E) → OnErr r P → is_err r ≡ true → P
+where_err (Ok x) h e = absurd cc
+where_err (Err x) h e = h
+
+-- out of memory
+asks : (e : Encoding) → Fails Memory (argument_frame e)
+asks e = inr (inr (refl, refl))
+
+unframed : (e : Encoding) (why : CodecError) → Fails why (frame e) → Fails why (argument_frame e)
+unframed e why (inl h) = inl h
+unframed e why (inr (inl h)) = inr (inl h)
+unframed e why (inr (inr h)) = rw h.0 (asks e)
+
+pub invariant_of-self : goal.invariant_of-self
+invariant_of-self g c = rw c.reserve.ensures.items c.self.invariant
+
+pub returns-in_err-reserve-clause-exact : goal.returns-in_err-reserve-clause-exact
+returns-in_err-reserve-clause-exact g c =
+    let p = err_from_is_err_and c.from_residual.result c.from_residual.ensures.1 in
+    rw (p.1, p.2) (asks (g.T.Encode.encoding c.args.value.now))
+
+pub returns-in_err-reserve-clause-unchanged : goal.returns-in_err-reserve-clause-unchanged
+returns-in_err-reserve-clause-unchanged g c =
+    let same : arguments_of c.reserve.new.self.items c.self.inside.buffer ≡ c.args.self.now = rw c.reserve.ensures.items c.self.view_is in
+    on_err c.from_residual.result same
+
+pub invariant_of-self-in_err-argument_type : goal.invariant_of-self-in_err-argument_type
+invariant_of-self-in_err-argument_type g c = rw c.reserve.ensures.items c.self.invariant
+
+pub returns-in_err-argument_type-clause-exact : goal.returns-in_err-argument_type-clause-exact
+returns-in_err-argument_type-clause-exact g c =
+    let p = err_from_is_err_and c.from_residual-in_err-argument_type.result c.from_residual-in_err-argument_type.ensures.1 in
+    rw (p.1, p.2) (asks (g.T.Encode.encoding c.args.value.now))
+
+pub returns-in_err-argument_type-clause-unchanged : goal.returns-in_err-argument_type-clause-unchanged
+returns-in_err-argument_type-clause-unchanged g c =
+    let same : arguments_of c.reserve.new.self.items c.self.inside.buffer ≡ c.args.self.now = rw c.reserve.ensures.items c.self.view_is in
+    on_err c.from_residual-in_err-argument_type.result same
+
+-- the buffer goes back to where it was
+pub invariant_of-self-in-Err : goal.invariant_of-self-in-Err
+invariant_of-self-in-Err g c =
+    let undone : c.back.new.self ≡ c.self.inside.buffer = c.back.ensures c.self.inside.buffer c.in-Err.ensures.appended.0 c.in-Err.ensures.appended.1 c.mark-mark.ensures in
+    rw (c.reserve.ensures.items, undone) c.self.invariant
+
+pub returns-in-Err-clause-exact : goal.returns-in-Err-clause-exact
+returns-in-Err-clause-exact g c = unframed (g.T.Encode.encoding c.args.value.now) c.in-Err.error c.in-Err.ensures.exact
+
+pub returns-in-Err-clause-unchanged : goal.returns-in-Err-clause-unchanged
+returns-in-Err-clause-unchanged g c =
+    let undone : c.back.new.self ≡ c.self.inside.buffer = c.back.ensures c.self.inside.buffer c.in-Err.ensures.appended.0 c.in-Err.ensures.appended.1 c.mark-mark.ensures in
+    let same : arguments_of c.reserve.new.self.items c.back.new.self ≡ c.args.self.now = rw (c.reserve.ensures.items, undone) c.self.view_is in
+    same
+
+pub invariant_of-self-then-is_err : goal.invariant_of-self-then-is_err
+invariant_of-self-then-is_err g c =
+    let a = c.in_default.ensures.exact in
+    let undone : c.back-then-is_err.new.self ≡ c.self.inside.buffer = c.back-then-is_err.ensures c.self.inside.buffer (blank a.0) a.2 c.mark-mark.ensures in
+    let unnoted = where_err c.note_slots.result c.note_slots.ensures.err (sym c.is_err.ensures.value ∙ c.if-is_err.true) in
+    rw (c.reserve.ensures.items, undone, unnoted) c.self.invariant
+
+pub returns-then-is_err-clause-exact : goal.returns-then-is_err-clause-exact
+returns-then-is_err-clause-exact g c = asks (g.T.Encode.encoding c.args.value.now)
+
+pub returns-then-is_err-clause-unchanged : goal.returns-then-is_err-clause-unchanged
+returns-then-is_err-clause-unchanged g c =
+    let a = c.in_default.ensures.exact in
+    let undone : c.back-then-is_err.new.self ≡ c.self.inside.buffer = c.back-then-is_err.ensures c.self.inside.buffer (blank a.0) a.2 c.mark-mark.ensures in
+    let same : arguments_of c.reserve.new.self.items c.back-then-is_err.new.self ≡ c.args.self.now = rw (c.reserve.ensures.items, undone) c.self.view_is in
+    same
+
+-- for the type room was made
+pub invariant_of-self-in_err-push : goal.invariant_of-self-in_err-push
+invariant_of-self-in_err-push g c = absurd (not_err c.push.result _ (c.push.ensures.succeeds (omega (arith, c.in_ok-reserve.ensures.ok))) c.in_err-push.was)
+
+pub returns-in_err-push-clause-exact : goal.returns-in_err-push-clause-exact
+returns-in_err-push-clause-exact g c = absurd (not_err c.push.result _ (c.push.ensures.succeeds (omega (arith, c.in_ok-reserve.ensures.ok))) c.in_err-push.was)
+
+pub returns-in_err-push-clause-unchanged : goal.returns-in_err-push-clause-unchanged
+returns-in_err-push-clause-unchanged g c = absurd (not_err c.push.result _ (c.push.ensures.succeeds (omega (arith, c.in_ok-reserve.ensures.ok))) c.in_err-push.was)

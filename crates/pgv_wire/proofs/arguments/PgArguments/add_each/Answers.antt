@@ -1,4 +1,7 @@
-use Rattle.std.proofs.Common.{◌+◌, sym, ◌∙◌, ap, arith, append-nil}
+use Rattle.std.proofs.Common.{◌+◌, sym, ◌∙◌, ap, arith, append-nil, refl}
+use Rattle.std.proofs.lemmas.List.{take_all}
+use Rattle.std.proofs.lemmas.Result.{err_from_is_err_and}
+use Rattle.pgv_codec.proofs.Extensions.{on_err}
 use Rattle.pgv_codec.specs.Encoding.{value_type}
 use Rattle.pgv_wire.specs.Arguments.{argument_frame}
 use Rattle.pgv_wire.proofs.Eaches.{more, outcome_is, not_err}
@@ -25,3 +28,46 @@ loop-value-preserved g c =
       omega (arith, c.loop-value.invariant.1, c.in_ok-push.ensures.capacity),
       c.in_ok-push.ensures.len ∙ ap (λ n. n + 1) c.loop-value.invariant.2,
     )
+
+-- ---- an error
+
+pub returns-in_err-outcomes-clause-outcomes : goal.returns-in_err-outcomes-clause-outcomes
+returns-in_err-outcomes-clause-outcomes g c =
+    let p = err_from_is_err_and c.from_residual.result c.from_residual.ensures.1 in
+    rw p.1 tt
+
+pub returns-in_err-outcomes-clause-added : goal.returns-in_err-outcomes-clause-added
+returns-in_err-outcomes-clause-added g c =
+    let p = err_from_is_err_and c.from_residual.result c.from_residual.ensures.1 in
+    rw p.1 tt
+
+pub returns-in_err-outcomes-clause-err : goal.returns-in_err-outcomes-clause-err
+returns-in_err-outcomes-clause-err g c =
+    let p = err_from_is_err_and c.from_residual.result c.from_residual.ensures.1 in
+    rw p.1 p.2
+
+pub returns-in_err-outcomes-clause-unchanged : goal.returns-in_err-outcomes-clause-unchanged
+returns-in_err-outcomes-clause-unchanged g c = on_err c.from_residual.result refl
+
+pub returns-in_err-push-clause-outcomes : goal.returns-in_err-push-clause-outcomes
+returns-in_err-push-clause-outcomes g c =
+    let p = err_from_is_err_and c.from_residual-in_err-push.result c.from_residual-in_err-push.ensures.1 in
+    rw p.1 tt
+
+pub returns-in_err-push-clause-added : goal.returns-in_err-push-clause-added
+returns-in_err-push-clause-added g c =
+    let p = err_from_is_err_and c.from_residual-in_err-push.result c.from_residual-in_err-push.ensures.1 in
+    rw p.1 tt
+
+pub returns-in_err-push-clause-err : goal.returns-in_err-push-clause-err
+returns-in_err-push-clause-err g c =
+    let p = err_from_is_err_and c.from_residual-in_err-push.result c.from_residual-in_err-push.ensures.1 in
+    rw p.1 p.2
+
+-- ---- after the last value
+
+pub returns-clause-outcomes : goal.returns-clause-outcomes
+returns-clause-outcomes g c = (rw (take_all c.loop-value.value-index c.args.values.now (omega arith)) at c.loop-value.invariant.0).0
+
+pub returns-clause-added : goal.returns-clause-added
+returns-clause-added g c = (rw (take_all c.loop-value.value-index c.args.values.now (omega arith)) at c.loop-value.invariant.0).1
