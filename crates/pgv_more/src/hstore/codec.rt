@@ -105,6 +105,7 @@ fn write_pair(
 }
 
 /// Appends the pairs, in the order of the keys.
+#[inline(always)]
 fn write_pairs(
     hstore: &BTreeMap<String, Option<String>>,
     out: &mut PgArgumentBuffer,
@@ -125,6 +126,7 @@ fn write_pairs(
 impl Encode for PgHstore {
     ghost encoding = { λ h. plainly (hstore_image (pairs_of h)) };
 
+    #[inline(always)]
     #[tactic(auto, unfolding(crate::specs::Hstore::hstore_image))]
     fn encode_by_ref(&self, out: &mut PgArgumentBuffer) -> Result<IsNull, CodecError> {
         let number = number_of(self.0.len())?;
