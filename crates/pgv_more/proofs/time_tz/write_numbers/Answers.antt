@@ -1,5 +1,5 @@
 use mir.Val.{SFits}
-use Rattle.std.proofs.Common.{◌≡◌, ◌∙◌, ◌++◌, ℕ, ℤ, List, Some, rules, refl, ap, inr}
+use Rattle.std.proofs.Common.{◌≡◌, ◌∙◌, ◌++◌, ℕ, ℤ, List, Some, rules, refl, ap}
 use Rattle.std.specs.Int.{w32, w64, cast_signed, cast_unsigned, to_be_bytes}
 use Rattle.std.proofs.lemmas.Int.{to_z-of_z}
 use Rattle.pgv_buf.specs.Tokens.{bytes}
@@ -7,8 +7,7 @@ use Rattle.pgv_value.specs.OwnBytesLemmas.{signed_fits}
 use Rattle.pgv_codec.specs.Encoding.{image_of}
 use Rattle.pgv_codec.specs.PlainBytes.{appended_parts}
 use Rattle.pgv_more.specs.TimeTzCodec.{image_of_numbers}
-use Rattle.pgv_codec.proofs.Extensions.{extends_itself, on_err}
-use Rattle.std.proofs.lemmas.Result.{err_from_is_err_and}
+use Rattle.pgv_codec.proofs.Extensions.{extends_itself, on_err, ran_out}
 use Rattle.pgv_more.proofs.time_tz.write_numbers.Goals as goal
 
 image_is : (micros west : ℤ) (a b : List ℕ) → SFits w64 micros → SFits w32 west →
@@ -28,13 +27,11 @@ returns-clause-encodes c =
 
 pub returns-in_err-extend_from_slice-clause-encodes : goal.returns-in_err-extend_from_slice-clause-encodes
 returns-in_err-extend_from_slice-clause-encodes c =
-    let p = err_from_is_err_and c.from_residual.result c.from_residual.ensures.1 in
-    rw (p.1, p.2, c.in_err-extend_from_slice.ensures.err.0) (inr (inr (refl, refl)))
+    ran_out _ c.args.out.now _ c.from_residual.result _ refl c.from_residual.ensures.1 c.in_err-extend_from_slice.ensures.err.0
 
 pub returns-in_err-extend_from_slice-2-clause-encodes : goal.returns-in_err-extend_from_slice-2-clause-encodes
 returns-in_err-extend_from_slice-2-clause-encodes c =
-    let p = err_from_is_err_and c.from_residual-in_err-extend_from_slice-2.result c.from_residual-in_err-extend_from_slice-2.ensures.1 in
-    rw (p.1, p.2, c.in_err-extend_from_slice-2.ensures.err.0) (inr (inr (refl, refl)))
+    ran_out _ c.args.out.now _ c.from_residual-in_err-extend_from_slice-2.result _ refl c.from_residual-in_err-extend_from_slice-2.ensures.1 c.in_err-extend_from_slice-2.ensures.err.0
 
 pub returns-in_err-extend_from_slice-clause-appended : goal.returns-in_err-extend_from_slice-clause-appended
 returns-in_err-extend_from_slice-clause-appended c = on_err c.from_residual.result (rw c.in_err-extend_from_slice.ensures.err.1 (extends_itself c.args.out.now))

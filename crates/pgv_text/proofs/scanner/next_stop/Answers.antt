@@ -3,9 +3,13 @@ use Rattle.std.specs.List.{slice_index, slice_range}
 use Rattle.std.proofs.lemmas.List.{length-drop, take_all, take-append-drop}
 use Rattle.std.proofs.Math.Nat.{sub-zero}
 use Rattle.std.proofs.lemmas.Str.{IsCharBoundary-after_ascii}
+use Rattle.pgv_text.specs.declared.scanner.Cell.{Cell}
 use Rattle.pgv_text.specs.declared.scanner.Cell.TheVariants.{Keep}
+use Rattle.pgv_text.specs.declared.scanner.Class.{Class}
 use Rattle.pgv_text.specs.declared.scanner.Class.TheVariants.{Other}
+use Rattle.pgv_text.specs.declared.scanner.Place.{Place}
 use Rattle.pgv_text.specs.declared.scanner.Place.TheVariants.{Outside, Quoted}
+use Rattle.pgv_text.specs.declared.scanner.TextForm.{TextForm}
 use Rattle.pgv_text.specs.Scan.{cell, class}
 use Rattle.pgv_text.proofs.Stops.{ends_unread, kept_one, kept_run, split_at, stop_is_ascii, stop_onward, stops_at}
 use Rattle.pgv_text.proofs.Copies.{copies_there, ends_unstopped, found_stop, kept_stop, kept_stop_one}
@@ -22,24 +26,23 @@ run_within bytes i n lt le = omega (arith, lt, le, ap length (rest_whole bytes i
 front : (bytes : List ℕ) (i : ℕ) → slice_range bytes 0 i ≡ take i bytes
 front bytes i = ap (λ (n : ℕ). take n bytes) (sub-zero i)
 
+-- where it stops, the byte is ASCII
+low_there : (form : TextForm) (place : Place) (bytes text : List ℕ) (i : ℕ) (k : Class) (there : Cell) → bytes ≡ text → k ≡ class (form_of form) (slice_index bytes i) → there ≡ cell (form_of form) place k →
+    ((next : Place) → there ≡ Keep next → ⊥) → slice_index text i < 128
+low_there form place bytes text i k there same is_class is stops =
+    stop_is_ascii form place (slice_index text i) there (is ∙ ap (cell (form_of form) place) (is_class ∙ ap (λ xs. class (form_of form) (slice_index xs i)) same)) stops
+
 pub range_from-requires : goal.range_from-requires
 range_from-requires c =
-    let form = form_of c.args.form in
-    let place = c.loop-index.place in
     let value = c.as_bytes-bytes.ensures.value in
-    let is : c.cell_of-cell.result ≡ cell form place (class form (slice_index c.args.text.now c.loop-index.index))
-    = c.cell_of-cell.ensures ∙ ap (cell form place) (c.class_of.ensures ∙ ap (λ t. class form (slice_index t c.loop-index.index)) value) in
-    λ h. IsCharBoundary-after_ascii c.args.text.now c.loop-index.index c.utf8.text (rw value at c.loop-index-test.true) (stop_is_ascii c.args.form place _ c.cell_of-cell.result is c.in_default-cell.not-Keep)
+    λ h. IsCharBoundary-after_ascii c.args.text.now c.loop-index.index c.utf8.text (rw value at c.loop-index-test.true)
+        (low_there c.args.form c.loop-index.place _ c.args.text.now c.loop-index.index _ c.cell_of-cell.result value c.class_of.ensures c.cell_of-cell.ensures c.in_default-cell.not-Keep)
 
 -- the cut before it
 pub range-requires : goal.range-requires
 range-requires c =
-    let form = form_of c.args.form in
-    let place = c.loop-index.place in
-    let value = c.as_bytes-bytes.ensures.value in
-    let is : c.cell_of-cell.result ≡ cell form place (class form (slice_index c.args.text.now c.loop-index.index))
-    = c.cell_of-cell.ensures ∙ ap (cell form place) (c.class_of.ensures ∙ ap (λ t. class form (slice_index t c.loop-index.index)) value) in
-    let low : slice_index c.args.text.now c.loop-index.index < 128 = stop_is_ascii c.args.form place _ c.cell_of-cell.result is c.in_default-cell.not-Keep in
+    let low =
+    low_there c.args.form c.loop-index.place _ c.args.text.now c.loop-index.index _ c.cell_of-cell.result c.as_bytes-bytes.ensures.value c.class_of.ensures c.cell_of-cell.ensures c.in_default-cell.not-Keep in
     record {
       start_le_end = omega arith;
       start_boundary = λ h. absurd (omega (arith, h));

@@ -1,10 +1,10 @@
-use Rattle.std.proofs.Common.{◌≡◌, ◌-◌, ℕ, Bool, true, false, List, [], length, drop, take, Option, None, Ok, Err, refl, ap, subst, arith}
+use Rattle.std.proofs.Common.{◌≡◌, ◌-◌, ◌≤◌, ℕ, Bool, true, false, List, [], length, drop, take, Option, None, Ok, Err, refl, ap, subst, arith}
 use Rattle.std.proofs.lemmas.List.{length-drop}
 use Rattle.pgv_types.specs.Ty.{Ty}
 use Rattle.pgv_value.specs.ValueView.{Given}
 use Rattle.pgv_value.specs.declared.error.CodecError.TheVariants.{Short}
 use Rattle.pgv_copy.specs.CopyBinary.{reader_ended}
-use Rattle.pgv_copy.specs.CopyPieces.{Advances, IsRowIn, Pieces, next_of}
+use Rattle.pgv_copy.specs.CopyPieces.{Advances, IsEnd, IsRowIn, Pieces, next_of}
 use Rattle.pgv_copy.specs.declared.pieces.PgCopyNext.TheVariants.{Row, More, End}
 use Rattle.pgv_copy.proofs.Ends.{Advanced, advanced, end_within, held_row, whole_end}
 use Rattle.pgv_copy.proofs.pieces.PgCopyPieces.advance.Goals as goal
@@ -29,6 +29,15 @@ module _ (types : List Ty) (in_header ended : Bool) (bytes : List ℕ) (kept : O
 up_to_end : (next : ℕ) (slice held : List ℕ) → slice ≡ held → take (length slice - next) (drop next slice) ≡ drop next held
 up_to_end next slice held is = rw is (whole_end next held)
 
+-- so is the row that is found in it
+row_held : (seen types : List Ty) (in_header : Bool) (next : ℕ) (slice held row rest : List ℕ) → seen ≡ types → slice ≡ held →
+    IsRowIn seen in_header (take (length slice - next) (drop next slice)) row rest → IsRowIn types in_header (drop next held) row rest
+row_held seen types in_header next slice held row rest is same found = rw (is, up_to_end next slice held same) at found
+
+-- what is left is no longer than what is held
+end_fits : (next size : ℕ) (held left : List ℕ) → size ≡ length held → IsEnd (drop next held) left → length left ≤ size
+end_fits next size held left is end = omega (arith, end_within (drop next held) left end, length-drop next held, is)
+
 pub returns-in-Err-Short-clause-found : goal.returns-in-Err-Short-clause-found
 returns-in-Err-Short-clause-found c =
     let s = c.self.inside in
@@ -45,42 +54,32 @@ returns-in_default-clause-found c =
 pub overflow_sub-row : goal.overflow_sub-row
 overflow_sub-row c =
     let s = c.self.inside in
-    let seen = up_to_end s.next c.as_slice.result.now s.held.items c.as_slice.ensures.value in
-    let found = rw c.in-Some.is at c.in-Ok.ensures in
-    let r : IsRowIn s.types.items s.in_header (drop s.next s.held.items) c.in-Some.row.now c.in-Some.rest.now = rw (c.as_slice-2.ensures.value, seen) at found in
-    omega (arith, end_within (drop s.next s.held.items) c.in-Some.row.now r.row_end, length-drop s.next s.held.items, c.len.ensures, s.held.ok.0)
+    let r = row_held _ s.types.items s.in_header s.next _ s.held.items c.in-Some.row.now c.in-Some.rest.now c.as_slice-2.ensures.value c.as_slice.ensures.value (rw c.in-Some.is at c.in-Ok.ensures) in
+    omega (arith, end_fits s.next c.len.result s.held.items c.in-Some.row.now (omega (arith, c.len.ensures, s.held.ok.0)) r.row_end)
 
 pub overflow_sub-next : goal.overflow_sub-next
 overflow_sub-next c =
     let s = c.self.inside in
-    let seen = up_to_end s.next c.as_slice.result.now s.held.items c.as_slice.ensures.value in
-    let found = rw c.in-Some.is at c.in-Ok.ensures in
-    let r : IsRowIn s.types.items s.in_header (drop s.next s.held.items) c.in-Some.row.now c.in-Some.rest.now = rw (c.as_slice-2.ensures.value, seen) at found in
-    omega (arith, end_within (drop s.next s.held.items) c.in-Some.rest.now r.rest_end, length-drop s.next s.held.items, c.len-2.ensures, s.held.ok.0)
+    let r = row_held _ s.types.items s.in_header s.next _ s.held.items c.in-Some.row.now c.in-Some.rest.now c.as_slice-2.ensures.value c.as_slice.ensures.value (rw c.in-Some.is at c.in-Ok.ensures) in
+    omega (arith, end_fits s.next c.len-2.result s.held.items c.in-Some.rest.now (omega (arith, c.len-2.ensures, s.held.ok.0)) r.rest_end)
 
 pub invariant_of-self-2 : goal.invariant_of-self-2
 invariant_of-self-2 c =
     let s = c.self.inside in
-    let seen = up_to_end s.next c.as_slice.result.now s.held.items c.as_slice.ensures.value in
-    let found = rw c.in-Some.is at c.in-Ok.ensures in
-    held_row s.types.items s.in_header s.next s.held.items c.in-Some.row.now c.in-Some.rest.now c.len.result c.len-2.result c.self.invariant.next_within (omega (arith, c.len.ensures, s.held.ok.0)) (omega (arith, c.len-2.ensures, s.held.ok.0))
-    (rw (c.as_slice-2.ensures.value, seen) at found)
+    let r = row_held _ s.types.items s.in_header s.next _ s.held.items c.in-Some.row.now c.in-Some.rest.now c.as_slice-2.ensures.value c.as_slice.ensures.value (rw c.in-Some.is at c.in-Ok.ensures) in
+    held_row s.types.items s.in_header s.next s.held.items c.in-Some.row.now c.in-Some.rest.now c.len.result c.len-2.result c.self.invariant.next_within (omega (arith, c.len.ensures, s.held.ok.0)) (omega (arith, c.len-2.ensures, s.held.ok.0)) r
 
 pub returns-clause-found : goal.returns-clause-found
 returns-clause-found c =
     let s = c.self.inside in
-    let seen = up_to_end s.next c.as_slice.result.now s.held.items c.as_slice.ensures.value in
-    let found = rw c.in-Some.is at c.in-Ok.ensures in
+    let r = row_held _ s.types.items s.in_header s.next _ s.held.items c.in-Some.row.now c.in-Some.rest.now c.as_slice-2.ensures.value c.as_slice.ensures.value (rw c.in-Some.is at c.in-Ok.ensures) in
     a_row s.types.items s.in_header s.is_ended (drop s.next s.held.items) _ c.args.self.now c.if-self.false c.self.view_is _ _
-    (advanced s.types.items s.in_header s.next s.held.items c.in-Some.row.now c.in-Some.rest.now c.len.result c.len-2.result c.self.invariant.next_within (omega (arith, c.len.ensures, s.held.ok.0)) (omega (arith, c.len-2.ensures, s.held.ok.0))
-    (rw (c.as_slice-2.ensures.value, seen) at found))
+    (advanced s.types.items s.in_header s.next s.held.items c.in-Some.row.now c.in-Some.rest.now c.len.result c.len-2.result c.self.invariant.next_within (omega (arith, c.len.ensures, s.held.ok.0)) (omega (arith, c.len-2.ensures, s.held.ok.0)) r)
 
 pub returns-clause-shorter : goal.returns-clause-shorter
 returns-clause-shorter c =
     let s = c.self.inside in
-    let seen = up_to_end s.next c.as_slice.result.now s.held.items c.as_slice.ensures.value in
-    let found = rw c.in-Some.is at c.in-Ok.ensures in
+    let r = row_held _ s.types.items s.in_header s.next _ s.held.items c.in-Some.row.now c.in-Some.rest.now c.as_slice-2.ensures.value c.as_slice.ensures.value (rw c.in-Some.is at c.in-Ok.ensures) in
     let a =
-    advanced s.types.items s.in_header s.next s.held.items c.in-Some.row.now c.in-Some.rest.now c.len.result c.len-2.result c.self.invariant.next_within (omega (arith, c.len.ensures, s.held.ok.0)) (omega (arith, c.len-2.ensures, s.held.ok.0))
-    (rw (c.as_slice-2.ensures.value, seen) at found) in
+    advanced s.types.items s.in_header s.next s.held.items c.in-Some.row.now c.in-Some.rest.now c.len.result c.len-2.result c.self.invariant.next_within (omega (arith, c.len.ensures, s.held.ok.0)) (omega (arith, c.len-2.ensures, s.held.ok.0)) r in
     λ _. omega (arith, a.shorter, ap (λ (p : Pieces). length p.left) c.self.view_is)
