@@ -14,6 +14,9 @@ use pgv_types::{Oid, PgTypeInfo};
 use std::alloc::{AllocError, Global};
 use std::marker::Model;
 
+/// Below so many bytes, memory grows to four times as many, and else to twice as many.
+const FEW: usize = 0x4_0000;
+
 /// A list of bytes, holes and slots (tokens), each with the bytes that are in its place now.
 ///
 /// A call that runs out of memory leaves the list as it was. [`mark`](Tokens::mark), [`back`](Tokens::back),
@@ -93,11 +96,27 @@ impl Tokens {
     }
 
     /// Makes room for `additional` bytes more. The tokens stay as they are.
+    #[inline(always)]
     pub fn reserve(&mut self, additional: usize) -> Result<(), AllocError>
         ensures { self.new ≡ self.old }
     {
-        self.bytes.reserve(additional)?;
+        if self.bytes.capacity() - self.bytes.len() < additional {
+            self.grow(additional)?;
+        }
         Ok(())
+    }
+
+    /// Asks for memory for `additional` bytes more, and for those that may come after them. The arguments of most
+    /// statements fit into the first memory that is asked for, and where a block can't be made larger, fewer are copied
+    /// than if each were twice as large as the one before.
+    #[cold]
+    #[inline(never)]
+    fn grow(&mut self, additional: usize) -> Result<(), AllocError>
+        ensures { self.new ≡ self.old }
+    {
+        let len = self.bytes.len();
+        let more = if len < FEW { 3 * len + 64 } else { len };
+        self.bytes.reserve(additional.max(more))
     }
 
     /// Appends a byte.
@@ -106,6 +125,7 @@ impl Tokens {
         ensures ok { OnOk result (self.new ≡ self.old ++ blank (byte value ∷ [])) }
         ensures err { OnErr result (self.new ≡ self.old) }
     {
+        self.reserve(1)?;
         self.bytes.push(value)?;
         Ok(())
     }
@@ -116,6 +136,7 @@ impl Tokens {
         ensures ok { OnOk result (self.new ≡ self.old ++ blank (bytes values.now)) }
         ensures err { OnErr result (self.new ≡ self.old) }
     {
+        self.reserve(values.len())?;
         self.bytes.extend_from_slice(values)?;
         Ok(())
     }

@@ -6,5 +6,6 @@ pub mod PartLoop
 pub mod PlainFits
 pub mod StepOutcomes
 pub mod FieldTypes
+pub mod FixedImages
 pub mod ArrayGrammars
 pub mod Extensions

@@ -1,5 +1,5 @@
 -- The frames of a list.
-use Rattle.std.proofs.Common.{◌≡◌, ℕ, ◌+◌, ◌*◌, zero, suc, ◌<◌, ◌≤◌, Bool, true, false, nat_lt, Result, Ok, Err, OnOk, List, [], ◌∷◌, ◌++◌, length, map, Option, Some, None, get_or, take, drop, refl, sym, subst, ◌∙◌, ap, append_assoc, append-nil, add-one, arith, drop-cons, inl, inr, drop-drop}
+use Rattle.std.proofs.Common.{◌≡◌, ℕ, ◌+◌, zero, suc, ◌<◌, ◌≤◌, Bool, true, false, nat_lt, Result, Ok, Err, OnOk, List, [], ◌∷◌, ◌++◌, length, map, Option, Some, None, get_or, take, drop, refl, sym, subst, ◌∙◌, ap, append_assoc, append-nil, add-one, arith, drop-cons, inl, inr, drop-drop}
 use Rattle.std.proofs.lemmas.Bool.{le-ltb, lt-ltb}
 use Rattle.std.proofs.lemmas.List.{drop_all, length-append, length-drop, length-map, length-take}
 use Rattle.std.proofs.Math.Seq.{take-add, take-append_seam, take-suc}
@@ -11,10 +11,9 @@ use Rattle.pgv_value.specs.Outcome.{Outcome, Fails, after, bind_by, done}
 use Rattle.pgv_value.specs.declared.error.CodecError.{CodecError}
 use Rattle.pgv_value.specs.declared.error.CodecError.TheVariants.{ArrayLength, Memory}
 use Rattle.pgv_codec.specs.PlainBytes.{bytes-append}
-use Rattle.pgv_codec.proofs.OneFrame.{plain_frame}
-use Rattle.pgv_codec.specs.Encoding.{Encoding, Image, image_of, plainly, writes, frame, frames, typed, header, array_image, written_element, field, value_type}
+use Rattle.pgv_codec.specs.Encoding.{Encoding, image_of, frame, frames, typed, header, array_image, written_element, field, value_type}
 use Rattle.pgv_codec.specs.Appending.{Appended, Appends}
-use Rattle.pgv_codec.specs.AtOnce.{AreFrames, WritesFirst, word_frame}
+use Rattle.pgv_codec.specs.AtOnce.{AreFrames, WritesFirst}
 use Rattle.std.specs.Prelude.{◌≡◌, ℕ, List, [], ◌∷◌, refl, length}
 use Rattle.std.specs.List.{slice_index_or}
 
@@ -158,22 +157,22 @@ module _ {X : Type 0} (encoding : X → Encoding) where
   unfolding frames
   no_frames = refl
 
-  one_frame : (x : X) (word : List ℕ) → (frame (encoding x)).answer ≡ Ok (bytes (word_frame word)) → AreFrames encoding (x ∷ []) (word_frame word)
+  one_frame : (x : X) (f : List ℕ) → (frame (encoding x)).answer ≡ Ok (bytes f) → AreFrames encoding (x ∷ []) f
   unfolding frames
-  one_frame x word e = rw e (ap (λ (ts : List Token). let r : Answer = Ok ts in r) (append-nil (bytes (word_frame word))))
+  one_frame x f e = rw e (ap (λ (ts : List Token). let r : Answer = Ok ts in r) (append-nil (bytes f)))
 
-  -- one frame more in place of eight zeros
-  pub next_frame : (xs : List X) (i : ℕ) (x : X) (word was : List ℕ) → i < length xs → x ≡ get_or xs i x → (frame (encoding x)).answer ≡ Ok (bytes (word_frame word)) →
-      length (word_frame word) ≡ 8 → 8 * i + 8 ≤ length was → AreFrames encoding (take i xs) (take (8 * i) was) →
-      AreFrames encoding (take (i + 1) xs) (take (8 * (i + 1)) (take (8 * i) was ++ (word_frame word ++ drop 8 (drop (8 * i) was))))
-  next_frame xs i x word was lt is e long room first =
-      let on : 8 * (i + 1) ≡ 8 * i + 8 = omega arith in
+  -- one frame more, of so many bytes, in place of as many after those of the frames so far
+  pub next_frame : (wide so_far : ℕ) (xs : List X) (i : ℕ) (x : X) (f was : List ℕ) → i < length xs → x ≡ get_or xs i x → (frame (encoding x)).answer ≡ Ok (bytes f) →
+      length f ≡ wide → so_far + wide ≤ length was → AreFrames encoding (take i xs) (take so_far was) →
+      AreFrames encoding (take (i + 1) xs) (take (so_far + wide) (take so_far was ++ (f ++ drop wide (drop so_far was))))
+  next_frame wide so_far xs i x f was lt is e long room first =
       let one : take (i + 1) xs ≡ take i xs ++ (x ∷ []) = rw add-one (take-suc xs i x lt ∙ ap (λ (y : X). take i xs ++ (y ∷ [])) (sym is)) in
-      let front = take (8 * i) was in
-      let wide : length (front ++ word_frame word) ≡ 8 * i + 8 = omega (arith, length-append front (word_frame word), long, length-take (8 * i) was) in
-      let bytes_are : take (8 * (i + 1)) (front ++ (word_frame word ++ drop 8 (drop (8 * i) was))) ≡ front ++ word_frame word =
-      rw (on, ← append_assoc) (subst (λ (m : ℕ). take m ((front ++ word_frame word) ++ drop 8 (drop (8 * i) was)) ≡ front ++ word_frame word) wide (take-append_seam (front ++ word_frame word) (drop 8 (drop (8 * i) was)))) in
-      rw (one, bytes_are) (frames_after (take i xs) (x ∷ []) front (word_frame word) first (one_frame x word e))
+      let front = take so_far was in
+      let others = drop wide (drop so_far was) in
+      let all : length (front ++ f) ≡ so_far + wide = omega (arith, length-append front f, long, length-take so_far was) in
+      let bytes_are : take (so_far + wide) (front ++ (f ++ others)) ≡ front ++ f =
+      rw (← append_assoc) (subst (λ (m : ℕ). take m ((front ++ f) ++ others) ≡ front ++ f) all (take-append_seam (front ++ f) others)) in
+      rw (one, bytes_are) (frames_after (take i xs) (x ∷ []) front f first (one_frame x f e))
 
   -- the frames of the next values after those of the first
   pub then_first : (n m : ℕ) (xs : List X) (was mid now : List Cell) → WritesFirst encoding xs n was mid → WritesFirst encoding (drop n xs) m mid now → WritesFirst encoding xs (n + m) was now
@@ -219,10 +218,6 @@ module _ {X : Type 0} (encoding : X → Encoding) where
       let small : nat_lt 2147483647 (length xs) ≡ false = le-ltb _ _ le in
       inr (inl (rw (length-map xs encoding, small, head_is, h.0) refl, h.1))
   array_unwritten info xs head e le head_is (inr (inr h)) = rw h.0 (array_asks info xs le)
-
--- the frame of an image of four bytes
-pub word_is : (image : Option Image) (word : List ℕ) → image ≡ Some (image_of (bytes word)) → length word ≡ 4 → (frame (plainly (writes image))).answer ≡ Ok (bytes (word_frame word))
-word_is image word is long = rw is (plain_frame word (omega (arith, long)) ∙ ap (λ (n : ℕ). let r : Answer = Ok (bytes (be4 n ++ word)) in r) long)
 
 -- ---- fields
 

@@ -6,7 +6,7 @@ use Rattle.pgv_buf.specs.Blank.{width-blank}
 use Rattle.pgv_buf.specs.Proper.{width-append}
 use Rattle.pgv_value.specs.Outcome.{Outcome}
 use Rattle.pgv_value.specs.declared.error.CodecError.TheVariants.{ValueSize}
-use Rattle.pgv_codec.specs.Encoding.{Encoding, Image, null_image, image_of, frame, plainly, writes}
+use Rattle.pgv_codec.specs.Encoding.{Encoding, Image, null_image, image_of, frame, plainly, with_hint, writes}
 use Rattle.pgv_codec.specs.PlainBytes.{bytes-append}
 use Rattle.pgv_codec.specs.Appending.{Appended, AtOnce, Encoded}
 use Rattle.pgv_codec.specs.declared.buffer.IsNull.{IsNull}
@@ -46,10 +46,13 @@ pub bytes_width : (xs : List ℕ) → tokens_width (bytes xs) ≡ length xs
 bytes_width [] = refl
 bytes_width (x ∷ xs) = omega (arith, bytes_width xs)
 
-pub plain_frame : (xs : List ℕ) → length xs ≤ 2147483647 → (frame (plainly (writes (Some (image_of (bytes xs)))))).answer ≡ Ok (bytes (be4 (length xs) ++ xs))
-plain_frame xs l =
-    image_frame (plainly (writes (Some (image_of (bytes xs))))) (bytes xs) (omega arith) refl (omega (arith, bytes_width xs, l))
+pub hinted_frame : (hint : ℕ) (xs : List ℕ) → hint ≤ 2147483647 → length xs ≤ 2147483647 → (frame (with_hint hint (writes (Some (image_of (bytes xs)))))).answer ≡ Ok (bytes (be4 (length xs) ++ xs))
+hinted_frame hint xs le l =
+    image_frame (with_hint hint (writes (Some (image_of (bytes xs))))) (bytes xs) le refl (omega (arith, bytes_width xs, l))
     ∙ ap (λ n. Ok (bytes (be4 n) ++ bytes xs)) (bytes_width xs) ∙ ap (λ ts. Ok ts) (sym (bytes-append (be4 (length xs)) xs))
+
+pub plain_frame : (xs : List ℕ) → length xs ≤ 2147483647 → (frame (plainly (writes (Some (image_of (bytes xs)))))).answer ≡ Ok (bytes (be4 (length xs) ++ xs))
+plain_frame xs l = hinted_frame 0 xs (omega arith) l
 
 -- what is written at once is a frame
 pub at_once : {E : Type 0} (r : Result Bool E) (o frame_is : Outcome (List Token)) (was now : List Cell) → o ≡ frame_is → IfOk r (λ done. (done ≡ true) × Appended o was now) → IfOk r (λ done. AtOnce done frame_is was now)

@@ -4,7 +4,7 @@
 -- (`WritesFirst`).
 use Rattle.std.specs.Prelude.{◌≡◌, ℕ, ◌+◌, ◌-◌, ◌≤◌, List, ◌++◌, length, map, take, drop, Some, Result, Ok, Err, Option}
 use Rattle.pgv_types.specs.Ty.{Ty}
-use Rattle.pgv_buf.specs.Tokens.{Cell, be4, bytes}
+use Rattle.pgv_buf.specs.Tokens.{Cell, bytes}
 use Rattle.pgv_codec.specs.ArrayGrammar.{parse_frames}
 use Rattle.pgv_value.specs.Fronts.{value_front}
 use Rattle.pgv_value.specs.Outcome.{Outcome}
@@ -39,10 +39,6 @@ abbrev pub AreFirst : {M : Type 0} → (Given → Outcome M) → ℕ → List �
 AreFirst parse count bytes ms rest = (t : Ty) → with_front ms (parse_frames parse t (count - length ms) rest).answer ≡ (parse_frames parse t count bytes).answer
 
 -- ---- writing
-
--- the frame of an image of four bytes
-abbrev pub word_frame : List ℕ → List ℕ
-word_frame word = be4 4 ++ word
 
 -- the frames of these values are these bytes
 abbrev pub AreFrames : {X : Type 0} → (X → Encoding) → List X → List ℕ → Type 0

@@ -9,6 +9,7 @@ ghost use Rattle.pgv_codec.specs.Encoding.{plainly, writes};
 
 use crate::buffer::{IsNull, PgArgumentBuffer};
 use crate::traits::{BuiltIn, HasBuiltIn, Of, Plain, Scalar};
+use crate::types::fixed::{Fixed, write_fixed};
 use crate::types::part::binary_value;
 use pgv_types::{PgType, PgTypeInfo};
 use pgv_value::{CodecError, PgValueRef, read_bool};
@@ -43,6 +44,20 @@ impl Scalar for bool {
     #[inline(always)]
     fn write_at_once(&self, out: &mut PgArgumentBuffer) -> Result<bool, CodecError> {
         out.push_frame(&[u8::from(*self)])
+    }
+
+    #[inline(always)]
+    fn write_first(values: &[bool], out: &mut PgArgumentBuffer) -> Result<usize, CodecError> {
+        write_fixed::<bool, 1, 5, 8, 40>(values, out)
+    }
+}
+
+impl Fixed<1> for bool {
+    ghost encoding = { λ truth. plainly (writes (bool_image truth)) };
+
+    #[inline(always)]
+    fn image(&self) -> [u8; 1] {
+        [u8::from(*self)]
     }
 }
 

@@ -13,6 +13,7 @@ ghost use Rattle.pgv_codec.specs.Encoding.{with_hint, writes};
 use super::int::{write_i32, write_i64};
 use crate::buffer::{IsNull, PgArgumentBuffer};
 use crate::traits::{BuiltIn, HasBuiltIn, Of, Plain, Scalar};
+use crate::types::fixed::{Fixed, write_fixed};
 use crate::types::part::binary_value;
 use jiff::Timestamp;
 use jiff::civil::{Date, DateTime, Time};
@@ -53,6 +54,20 @@ impl Scalar for Date {
     #[inline(always)]
     fn write(&self, out: &mut PgArgumentBuffer) -> Result<IsNull, CodecError> {
         write_i32(days_from_2000(*self), out)
+    }
+
+    #[inline(always)]
+    fn write_first(values: &[Date], out: &mut PgArgumentBuffer) -> Result<usize, CodecError> {
+        write_fixed::<Date, 4, 8, 8, 64>(values, out)
+    }
+}
+
+impl Fixed<4> for Date {
+    ghost encoding = { λ date. with_hint 4 (writes (date_image (epoch_day date))) };
+
+    #[inline(always)]
+    fn image(&self) -> [u8; 4] {
+        days_from_2000(*self).to_be_bytes()
     }
 }
 
@@ -120,6 +135,20 @@ impl Scalar for Time {
     #[inline(always)]
     fn write(&self, out: &mut PgArgumentBuffer) -> Result<IsNull, CodecError> {
         write_i64(micros_of_day(*self), out)
+    }
+
+    #[inline(always)]
+    fn write_first(values: &[Time], out: &mut PgArgumentBuffer) -> Result<usize, CodecError> {
+        write_fixed::<Time, 8, 12, 8, 96>(values, out)
+    }
+}
+
+impl Fixed<8> for Time {
+    ghost encoding = { λ time. with_hint 8 (writes (time_image (time_nanos time))) };
+
+    #[inline(always)]
+    fn image(&self) -> [u8; 8] {
+        micros_of_day(*self).to_be_bytes()
     }
 }
 
@@ -194,6 +223,20 @@ impl Scalar for DateTime {
     fn write(&self, out: &mut PgArgumentBuffer) -> Result<IsNull, CodecError> {
         write_i64(micros_from_2000(self.to_plain().to_nanosecond()), out)
     }
+
+    #[inline(always)]
+    fn write_first(values: &[DateTime], out: &mut PgArgumentBuffer) -> Result<usize, CodecError> {
+        write_fixed::<DateTime, 8, 12, 8, 96>(values, out)
+    }
+}
+
+impl Fixed<8> for DateTime {
+    ghost encoding = { λ moment. with_hint 8 (writes (moment_image (civil_nanos moment))) };
+
+    #[inline(always)]
+    fn image(&self) -> [u8; 8] {
+        micros_from_2000(self.to_plain().to_nanosecond()).to_be_bytes()
+    }
 }
 
 /// A `timestamp`, as [`read_date_time`] reads it: `00000000000f4240` and `2000-01-01 00:00:01` are the same. A
@@ -258,6 +301,20 @@ impl Scalar for Timestamp {
     #[inline(always)]
     fn write(&self, out: &mut PgArgumentBuffer) -> Result<IsNull, CodecError> {
         write_i64(micros_from_2000(self.as_nanosecond()), out)
+    }
+
+    #[inline(always)]
+    fn write_first(values: &[Timestamp], out: &mut PgArgumentBuffer) -> Result<usize, CodecError> {
+        write_fixed::<Timestamp, 8, 12, 8, 96>(values, out)
+    }
+}
+
+impl Fixed<8> for Timestamp {
+    ghost encoding = { λ instant. with_hint 8 (writes (moment_image instant.nanosecond)) };
+
+    #[inline(always)]
+    fn image(&self) -> [u8; 8] {
+        micros_from_2000(self.as_nanosecond()).to_be_bytes()
     }
 }
 

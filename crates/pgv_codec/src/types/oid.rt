@@ -10,8 +10,8 @@ ghost use Rattle.pgv_codec.specs.Encoding.{plainly, writes};
 
 use crate::buffer::{IsNull, PgArgumentBuffer};
 use crate::traits::{BuiltIn, HasBuiltIn, Of, Plain, Scalar};
+use crate::types::fixed::{Fixed, write_fixed};
 use crate::types::part::binary_value;
-use crate::types::words::write_words;
 use pgv_types::{Oid, PgType, PgTypeInfo};
 use pgv_value::{CodecError, PgValueRef, read_oid};
 use std::alloc::Global;
@@ -49,7 +49,16 @@ impl Scalar for Oid {
 
     #[inline(always)]
     fn write_first(values: &[Oid], out: &mut PgArgumentBuffer) -> Result<usize, CodecError> {
-        write_words(values, out)
+        write_fixed::<Oid, 4, 8, 8, 64>(values, out)
+    }
+}
+
+impl Fixed<4> for Oid {
+    ghost encoding = { λ oid. plainly (writes (unsigned_image w32 oid.0)) };
+
+    #[inline(always)]
+    fn image(&self) -> [u8; 4] {
+        self.0.to_be_bytes()
     }
 }
 

@@ -9,6 +9,7 @@ ghost use Rattle.pgv_codec.specs.Encoding.{plainly, writes};
 
 use crate::buffer::{IsNull, PgArgumentBuffer};
 use crate::traits::{BuiltIn, HasBuiltIn, Of, Plain, Scalar};
+use crate::types::fixed::{Fixed, write_fixed};
 use crate::types::part::binary_value;
 use pgv_types::{PgType, PgTypeInfo};
 use pgv_value::{CodecError, PgValueRef, read_uuid};
@@ -45,6 +46,20 @@ impl Scalar for Uuid {
     #[inline(always)]
     fn write_at_once(&self, out: &mut PgArgumentBuffer) -> Result<bool, CodecError> {
         out.push_frame(self.as_bytes())
+    }
+
+    #[inline(always)]
+    fn write_first(values: &[Uuid], out: &mut PgArgumentBuffer) -> Result<usize, CodecError> {
+        write_fixed::<Uuid, 16, 20, 4, 80>(values, out)
+    }
+}
+
+impl Fixed<16> for Uuid {
+    ghost encoding = { λ id. plainly (writes (uuid_image id)) };
+
+    #[inline(always)]
+    fn image(&self) -> [u8; 16] {
+        self.into_bytes()
     }
 }
 

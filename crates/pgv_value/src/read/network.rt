@@ -49,6 +49,7 @@ fn network_with(address: IpAddr, prefix: u8) -> Result<IpNetwork, CodecError>
 }
 
 /// The network of a family, a prefix, the number of the octets as it is written, and the octets.
+#[inline(always)]
 fn network_of_octets(
     family: u8,
     prefix: u8,
@@ -68,6 +69,7 @@ fn network_of_octets(
 /// [`WrongLength`](CodecError::WrongLength) (C17), a family other than 2 and 3 with
 /// [`InetFamily`](CodecError::InetFamily) (C31), and a prefix above the number of the address's bits with
 /// [`InetPrefix`](CodecError::InetPrefix) (C32).
+#[inline(always)]
 fn network_of_bytes(bytes: &[u8]) -> Result<IpNetwork, CodecError>
     ensures { GivesExactly network_of (network_in_binary bytes.now) result }
 {

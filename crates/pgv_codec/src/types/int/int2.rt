@@ -10,6 +10,7 @@ ghost use Rattle.pgv_codec.specs.Encoding.{plainly, writes};
 
 use crate::buffer::{IsNull, PgArgumentBuffer};
 use crate::traits::{BuiltIn, HasBuiltIn, Of, Plain, Scalar};
+use crate::types::fixed::{Fixed, write_fixed};
 use crate::types::part::binary_value;
 use pgv_types::{PgType, PgTypeInfo};
 use pgv_value::{CodecError, PgValueRef, read_i16};
@@ -44,6 +45,20 @@ impl Scalar for i16 {
     #[inline(always)]
     fn write_at_once(&self, out: &mut PgArgumentBuffer) -> Result<bool, CodecError> {
         out.push_frame(&self.to_be_bytes())
+    }
+
+    #[inline(always)]
+    fn write_first(values: &[i16], out: &mut PgArgumentBuffer) -> Result<usize, CodecError> {
+        write_fixed::<i16, 2, 6, 8, 48>(values, out)
+    }
+}
+
+impl Fixed<2> for i16 {
+    ghost encoding = { λ number. plainly (writes (signed_image w16 number)) };
+
+    #[inline(always)]
+    fn image(&self) -> [u8; 2] {
+        self.to_be_bytes()
     }
 }
 

@@ -11,8 +11,8 @@ ghost use Rattle.pgv_codec.specs.Encoding.{plainly, writes};
 use super::write_i32;
 use crate::buffer::{IsNull, PgArgumentBuffer};
 use crate::traits::{BuiltIn, HasBuiltIn, Of, Plain, Scalar};
+use crate::types::fixed::{Fixed, write_fixed};
 use crate::types::part::binary_value;
-use crate::types::words::write_words;
 use pgv_types::{PgType, PgTypeInfo};
 use pgv_value::{CodecError, PgValueRef, read_i32};
 use std::alloc::Global;
@@ -49,7 +49,16 @@ impl Scalar for i32 {
 
     #[inline(always)]
     fn write_first(values: &[i32], out: &mut PgArgumentBuffer) -> Result<usize, CodecError> {
-        write_words(values, out)
+        write_fixed::<i32, 4, 8, 8, 64>(values, out)
+    }
+}
+
+impl Fixed<4> for i32 {
+    ghost encoding = { λ number. plainly (writes (signed_image w32 number)) };
+
+    #[inline(always)]
+    fn image(&self) -> [u8; 4] {
+        self.to_be_bytes()
     }
 }
 

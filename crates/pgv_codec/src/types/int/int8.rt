@@ -11,6 +11,7 @@ ghost use Rattle.pgv_codec.specs.Encoding.{plainly, writes};
 use super::write_i64;
 use crate::buffer::{IsNull, PgArgumentBuffer};
 use crate::traits::{BuiltIn, HasBuiltIn, Of, Plain, Scalar};
+use crate::types::fixed::{Fixed, write_fixed};
 use crate::types::part::binary_value;
 use pgv_types::{PgType, PgTypeInfo};
 use pgv_value::{CodecError, PgValueRef, read_i64};
@@ -44,6 +45,20 @@ impl Scalar for i64 {
     #[inline(always)]
     fn write_at_once(&self, out: &mut PgArgumentBuffer) -> Result<bool, CodecError> {
         out.push_frame(&self.to_be_bytes())
+    }
+
+    #[inline(always)]
+    fn write_first(values: &[i64], out: &mut PgArgumentBuffer) -> Result<usize, CodecError> {
+        write_fixed::<i64, 8, 12, 8, 96>(values, out)
+    }
+}
+
+impl Fixed<8> for i64 {
+    ghost encoding = { λ number. plainly (writes (signed_image w64 number)) };
+
+    #[inline(always)]
+    fn image(&self) -> [u8; 8] {
+        self.to_be_bytes()
     }
 }
 

@@ -36,7 +36,7 @@ pub range_from-requires : goal.range_from-requires
 range_from-requires c =
     let value = c.as_bytes-bytes.ensures.value in
     λ h. IsCharBoundary-after_ascii c.args.text.now c.loop-index.index c.utf8.text (rw value at c.loop-index-test.true)
-        (low_there c.args.form c.loop-index.place _ c.args.text.now c.loop-index.index _ c.cell_of-cell.result value c.class_of.ensures c.cell_of-cell.ensures c.in_default-cell.not-Keep)
+    (low_there c.args.form c.loop-index.place _ c.args.text.now c.loop-index.index _ c.cell_of-cell.result value c.class_of.ensures c.cell_of-cell.ensures c.in_default-cell.not-Keep)
 
 -- the cut before it
 pub range-requires : goal.range-requires

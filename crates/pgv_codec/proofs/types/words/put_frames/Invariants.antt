@@ -1,7 +1,0 @@
-use Rattle.std.proofs.Common.{◌*◌, take}
-use Rattle.pgv_codec.specs.AtOnce.{AreFrames}
-use Rattle.pgv_codec.proofs.types.words.put_frames.Given as goal
-
--- the frames so far
-abbrev pub invariant-loop-place : goal.invariant-loop-place
-invariant-loop-place g l = AreFrames g.T.Word.encoding (take l.place l.values) (take (8 * l.place) l.frames)
